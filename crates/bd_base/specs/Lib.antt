@@ -1,0 +1,4 @@
+-- The definitions that the contracts of several crates cite.
+pub mod Extents
+pub mod Files
+pub mod Policy

@@ -1,0 +1,22 @@
+//! What every other crate names: wrapped numbers, limits, lists, and the plain data of files and scripts.
+#![tactic(auto)]
+
+mod limits;
+mod list;
+mod numbers;
+mod range;
+mod script;
+mod volume;
+
+pub use limits::{
+    ACTORS, ADDRESSES, BLOCK_SIZE, BLOCKS, DESCRIPTORS, FILE_SIZE, FILES, FRAGMENTS, NAME_SIZE,
+    PART_BLOCKS, PARTS, PERMS, PROCESSES,
+};
+pub use list::{Bytes, List, OutOfMemory};
+pub use numbers::{Actor, BlockNo, Fd, FileId, Part, Pid, Vba};
+pub use range::Range;
+pub use script::{
+    Call, CallList, How, Item, ItemList, Mode, Process, ProcessList, ScheduleLine, ScheduleList,
+    Script,
+};
+pub use volume::{BlockList, Extent, ExtentList, Inode, InodeList, Name, Volume};

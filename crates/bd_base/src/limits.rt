@@ -1,0 +1,40 @@
+//! The limits of the machine. Every contract that speaks of one names it.
+
+/// How many processes a script may have.
+pub const PROCESSES: u64 = 16;
+
+/// How many descriptors a process may have open.
+pub const DESCRIPTORS: u64 = 8;
+
+/// How many files an image may have.
+pub const FILES: u64 = 256;
+
+/// How many blocks an image may have.
+pub const BLOCKS: u64 = 16_384;
+
+/// How many block addresses a process has: one for each block that one of its descriptors may reach.
+pub const ADDRESSES: u64 = 32_768;
+
+/// How many actors take turns: a processor and a device engine a process, and the invalidation engine.
+pub const ACTORS: u64 = 33;
+
+/// How many parts a file may have.
+pub const PARTS: u64 = 8;
+
+/// How many blocks a part of a file has.
+pub const PART_BLOCKS: u64 = 512;
+
+/// How many pairs of a file and a part may have a translation fragment at one time.
+pub const FRAGMENTS: u64 = 64;
+
+/// How many bytes a block has.
+pub const BLOCK_SIZE: u64 = 4096;
+
+/// How many bytes a file may have.
+pub const FILE_SIZE: u64 = 16_777_216;
+
+/// How many bytes a file's name may have.
+pub const NAME_SIZE: u64 = 31;
+
+/// The permission bits of a file are below this number.
+pub const PERMS: u64 = 16;
