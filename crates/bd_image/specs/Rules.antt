@@ -1,0 +1,185 @@
+-- The nineteen rules of an image, in their order, and where each is broken.
+use Rattle.std.specs.Prelude.{◌≡◌, ◌≢◌, ◌⊎◌, ◌↔◌, ℕ, ◌+◌, ◌-◌, ◌*◌, ◌/◌, ◌%◌, ◌<◌, ◌≤◌, min, IsTrue, List, [], ◌∷◌, ◌++◌, length, take, replicate, All, Contains, codes}
+use Rattle.bd_base.specs.declared.limits.TheConstants.{BLOCK_SIZE, FILE_SIZE, NAME_SIZE}
+use Rattle.bd_base.specs.declared.volume.Extent.{Extent}
+use Rattle.bd_base.specs.Files.{blocks_for}
+use Rattle.bd_image.specs.declared.layout.TheConstants.{BITMAP_PLACE, EXTENT_BYTES, EXTENTS_FIELD, HEADER_BYTES, INODES_PLACE, LEAST_INODES, LEAST_LENGTH, LENGTH_PLACE, MOST_EXTENTS, MOST_INODES, MOST_LENGTH, NAME_FIELD, RECORD_BYTES, SIZE_FIELD, VERSION, VERSION_PLACE}
+use Rattle.bd_image.specs.Layout.{IsUsed, block_count, blocks_at, byte_at, data_start, extent_at, extent_count, extent_place, inode_count, is_marked, name_field, perms_at, record_place, size_at, used_mark, version}
+
+-- the rules by what each is about
+pub data Rule : Type 0 where
+  Length : Rule
+  Magic : Rule
+  Version : Rule
+  BlockCount : Rule
+  InodeCount : Rule
+  HeaderRest : Rule
+  UsedMark : Rule
+  FreeRecord : Rule
+  Perms : Rule
+  ExtentCount : Rule
+  NameForm : Rule
+  NameFresh : Rule
+  RecordRest : Rule
+  ExtentRange : Rule
+  ExtentJoins : Rule
+  ExtentShares : Rule
+  Size : Rule
+  TailZero : Rule
+  Bitmap : Rule
+
+-- the number of a rule, as it is told
+abbrev pub rule_number : Rule → ℕ
+rule_number Length = 1
+rule_number Magic = 2
+rule_number Version = 3
+rule_number BlockCount = 4
+rule_number InodeCount = 5
+rule_number HeaderRest = 6
+rule_number UsedMark = 7
+rule_number FreeRecord = 8
+rule_number Perms = 9
+rule_number ExtentCount = 10
+rule_number NameForm = 11
+rule_number NameFresh = 12
+rule_number RecordRest = 13
+rule_number ExtentRange = 14
+rule_number ExtentJoins = 15
+rule_number ExtentShares = 16
+rule_number Size = 17
+rule_number TailZero = 18
+rule_number Bitmap = 19
+
+-- a number of bytes that an image may have
+pub record IsLength (n : ℕ) : Type 0 where
+  pub whole_blocks : n % BLOCK_SIZE ≡ 0
+  pub least : LEAST_LENGTH ≤ n
+  pub most : n ≤ MOST_LENGTH
+
+-- a number of records that an image may have
+pub record IsInodeCount (m : ℕ) : Type 0 where
+  pub whole_blocks : m % LEAST_INODES ≡ 0
+  pub least : LEAST_INODES ≤ m
+  pub most : m ≤ MOST_INODES
+
+-- a byte of a name: a to z, 0 to 9, a dot, an underscore or a dash
+abbrev pub IsNameByte : ℕ → Type 0
+IsNameByte c = ((97 ≤ c) × (c ≤ 122)) ⊎ (((48 ≤ c) × (c ≤ 57)) ⊎ ((c ≡ 46) ⊎ ((c ≡ 95) ⊎ (c ≡ 45))))
+
+-- 1 to 31 such bytes
+pub record IsName (name : List ℕ) : Type 0 where
+  pub least : 0 < length name
+  pub most : length name ≤ NAME_SIZE
+  pub bytes : All IsNameByte name
+
+-- a name, and zeros up to 32 bytes
+pub record IsNameField (field : List ℕ) : Type 0 where
+  pub name : List ℕ
+  pub is_name : IsName name
+  pub padded : field ≡ name ++ replicate (32 - length name) 0
+
+-- the extent lies in the data area of an image with these numbers of blocks and records
+pub record IsInDataArea (blocks inodes : ℕ) (e : Extent) : Type 0 where
+  pub not_empty : 1 ≤ e.length
+  pub start : data_start inodes ≤ e.start
+  pub end : e.start + e.length ≤ blocks
+
+-- some block is in both extents
+abbrev pub ShareBlock : Extent → Extent → Type 0
+ShareBlock d e = (d.start < e.start + e.length) × (e.start < d.start + d.length) × (0 < d.length) × (0 < e.length)
+
+-- extent d of record i stands before extent e of record j, by record and then by extent
+abbrev pub IsEarlier : ℕ → ℕ → ℕ → ℕ → Type 0
+IsEarlier i d j e = (i < j) ⊎ ((i ≡ j) × (d < e))
+
+-- e is an extent of record j, which is used
+abbrev pub IsExtent : List ℕ → ℕ → ℕ → Type 0
+IsExtent b j e = IsUsed b j × (e < extent_count b j)
+
+-- where the size of record j is more than its whole blocks, the place is one of the bytes of its last block past the size
+pub record IsInTail (b : List ℕ) (j place : ℕ) : Type 0 where
+  pub front : List ℕ
+  pub last : ℕ
+  pub blocks : blocks_at b j ≡ front ++ last ∷ []
+  pub past : BLOCK_SIZE * last + (size_at b j - BLOCK_SIZE * length front) ≤ place
+  pub within : place < BLOCK_SIZE * (last + 1)
+
+-- the block is one of the metadata, or some file owns it
+abbrev pub IsTaken : List ℕ → ℕ → Type 0
+IsTaken b x = (x < data_start (inode_count b)) ⊎ ((j : ℕ) × IsUsed b j × Contains (blocks_at b j) x)
+
+-- the places in record j that its extents leave: those past the count, and the last 16 bytes
+abbrev pub IsInRest : List ℕ → ℕ → ℕ → Type 0
+IsInRest b j place =
+    (record_place j + EXTENTS_FIELD + EXTENT_BYTES * extent_count b j ≤ place) × (place < record_place j + RECORD_BYTES)
+
+-- the image meets the rule
+abbrev pub Obeys : List ℕ → Rule → Type 0
+Obeys b Length = IsLength (length b)
+Obeys b Magic = take 8 b ≡ codes "BYPDFS01"
+Obeys b Version = version b ≡ VERSION
+Obeys b BlockCount = block_count b * BLOCK_SIZE ≡ length b
+Obeys b InodeCount = IsInodeCount (inode_count b)
+Obeys b HeaderRest = (place : ℕ) → HEADER_BYTES ≤ place → place < BITMAP_PLACE → byte_at b place ≡ 0
+Obeys b UsedMark = (j : ℕ) → j < inode_count b → used_mark b j ≤ 1
+Obeys b FreeRecord =
+    (j place : ℕ) → j < inode_count b → used_mark b j ≡ 0 → record_place j ≤ place → place < record_place j + RECORD_BYTES →
+    byte_at b place ≡ 0
+Obeys b Perms = (j : ℕ) → IsUsed b j → perms_at b j ≤ 15
+Obeys b ExtentCount = (j : ℕ) → IsUsed b j → extent_count b j ≤ MOST_EXTENTS
+Obeys b NameForm = (j : ℕ) → IsUsed b j → IsNameField (name_field b j)
+Obeys b NameFresh = (i j : ℕ) → IsUsed b i → IsUsed b j → i < j → name_field b i ≢ name_field b j
+Obeys b RecordRest = (j place : ℕ) → IsUsed b j → IsInRest b j place → byte_at b place ≡ 0
+Obeys b ExtentRange = (j e : ℕ) → IsExtent b j e → IsInDataArea (block_count b) (inode_count b) (extent_at b j e)
+Obeys b ExtentJoins =
+    (j e : ℕ) → IsExtent b j (e + 1) → (extent_at b j (e + 1)).start ≢ (extent_at b j e).start + (extent_at b j e).length
+Obeys b ExtentShares =
+    (i d j e : ℕ) → IsExtent b i d → IsExtent b j e → IsEarlier i d j e → ¬ ShareBlock (extent_at b i d) (extent_at b j e)
+Obeys b Size = (j : ℕ) → IsUsed b j → (size_at b j ≤ FILE_SIZE) × (length (blocks_at b j) ≡ blocks_for (size_at b j))
+Obeys b TailZero = (j place : ℕ) → IsUsed b j → IsInTail b j place → byte_at b place ≡ 0
+Obeys b Bitmap = (x : ℕ) → x < 8 * BLOCK_SIZE → IsTrue (is_marked b x) ↔ IsTaken b x
+
+-- the rule is broken at this place of the image
+abbrev pub BreaksAt : List ℕ → Rule → ℕ → Type 0
+BreaksAt b Length place = ¬ IsLength (length b) × (place ≡ min (length b) (MOST_LENGTH + 1))
+BreaksAt b Magic place = (take 8 b ≢ codes "BYPDFS01") × (place ≡ 0)
+BreaksAt b Version place = (version b ≢ VERSION) × (place ≡ VERSION_PLACE)
+BreaksAt b BlockCount place = (block_count b * BLOCK_SIZE ≢ length b) × (place ≡ LENGTH_PLACE)
+BreaksAt b InodeCount place = ¬ IsInodeCount (inode_count b) × (place ≡ INODES_PLACE)
+BreaksAt b HeaderRest place = (HEADER_BYTES ≤ place) × (place < BITMAP_PLACE) × (byte_at b place ≢ 0)
+BreaksAt b UsedMark place = (j : ℕ) × (j < inode_count b) × (1 < used_mark b j) × (place ≡ record_place j)
+BreaksAt b FreeRecord place =
+    (j : ℕ) × (j < inode_count b) × (used_mark b j ≡ 0) × (record_place j ≤ place) × (place < record_place j + RECORD_BYTES)
+    × (byte_at b place ≢ 0)
+BreaksAt b Perms place = (j : ℕ) × IsUsed b j × (15 < perms_at b j) × (place ≡ record_place j + 1)
+BreaksAt b ExtentCount place = (j : ℕ) × IsUsed b j × (MOST_EXTENTS < extent_count b j) × (place ≡ record_place j + 2)
+BreaksAt b NameForm place = (j : ℕ) × IsUsed b j × ¬ IsNameField (name_field b j) × (place ≡ record_place j + NAME_FIELD)
+BreaksAt b NameFresh place =
+    (i : ℕ) × (j : ℕ) × IsUsed b i × IsUsed b j × (i < j) × (name_field b i ≡ name_field b j) × (place ≡ record_place j + NAME_FIELD)
+BreaksAt b RecordRest place = (j : ℕ) × IsUsed b j × IsInRest b j place × (byte_at b place ≢ 0)
+BreaksAt b ExtentRange place =
+    (j : ℕ) × (e : ℕ) × IsExtent b j e × ¬ IsInDataArea (block_count b) (inode_count b) (extent_at b j e) × (place ≡ extent_place j e)
+BreaksAt b ExtentJoins place =
+    (j : ℕ) × (e : ℕ) × IsExtent b j (e + 1) × ((extent_at b j (e + 1)).start ≡ (extent_at b j e).start + (extent_at b j e).length)
+    × (place ≡ extent_place j (e + 1))
+BreaksAt b ExtentShares place =
+    (i : ℕ) × (d : ℕ) × (j : ℕ) × (e : ℕ) × IsExtent b i d × IsExtent b j e × IsEarlier i d j e
+    × ShareBlock (extent_at b i d) (extent_at b j e) × (place ≡ extent_place j e)
+BreaksAt b Size place =
+    (j : ℕ) × IsUsed b j × ¬ ((size_at b j ≤ FILE_SIZE) × (length (blocks_at b j) ≡ blocks_for (size_at b j)))
+    × (place ≡ record_place j + SIZE_FIELD)
+BreaksAt b TailZero place = (j : ℕ) × IsUsed b j × IsInTail b j place × (byte_at b place ≢ 0)
+BreaksAt b Bitmap place =
+    (x : ℕ) × (x < 8 * BLOCK_SIZE) × ¬ (IsTrue (is_marked b x) ↔ IsTaken b x) × (place ≡ BITMAP_PLACE + x / 8)
+
+-- the image breaks no rule
+abbrev pub Accepted : List ℕ → Type 0
+Accepted b = (rule : Rule) → Obeys b rule
+
+-- of the rules that the image breaks the least is the one of this number, and this is the least place where it is broken
+pub record Broken (b : List ℕ) (number place : ℕ) : Type 0 where
+  pub rule : Rule
+  pub number_is : rule_number rule ≡ number
+  pub lesser : (q : Rule) → rule_number q < number → Obeys b q
+  pub broken : BreaksAt b rule place
+  pub least : (p : ℕ) → p < place → ¬ BreaksAt b rule p
