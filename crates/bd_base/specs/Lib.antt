@@ -1,4 +1,5 @@
 -- The definitions that the contracts of several crates cite.
+pub mod Bounds
 pub mod Bytes
 pub mod Extents
 pub mod Files

@@ -1,16 +1,28 @@
 //! A range of bytes within a block.
-ghost use Rattle.std.specs.Prelude.{◌≡◌, ℕ, ◌<◌, ◌≤◌, ◌↔◌, IsSome, IfSome};
-ghost use Rattle.bd_base.specs.declared.limits.TheConstants.{BLOCK_SIZE};
+ghost use Rattle.std.specs.Prelude.{◌≡◌, ℕ, ◌-◌, ◌<◌, ◌≤◌, ◌↔◌, IsSome, IfSome};
 
 use crate::limits::BLOCK_SIZE;
+use std::marker::Model;
 
-/// The bytes `lo` to `hi` - 1 of a block. It has at least one byte.
+/// The bytes `lo` to `hi` - 1 of a block: at least one, and all within the block.
 #[derive(Clone, Copy, Debug, PartialEq, Eq)]
 pub struct Range {
     pub lo: u16,
     pub hi: u16,
-    pub ghost ordered: { lo < hi },
-    pub ghost in_block: { hi ≤ BLOCK_SIZE },
+}
+
+impl Model for Range {
+    ghost use Rattle.std.specs.Prelude.{◌<◌, ◌≤◌};
+    ghost use Rattle.bd_base.specs.declared.limits.TheConstants.{BLOCK_SIZE};
+    ghost use Rattle.bd_base.specs.Bounds.{Bounds};
+
+    ghost Value = { Bounds };
+
+    ghost view = { λ a. record { lo = a.lo; hi = a.hi } };
+
+    ghost invariant = { λ a. (a.lo < a.hi) × (a.hi ≤ BLOCK_SIZE) };
+
+    ghost inverse = { λ b. record { lo = b.lo; hi = b.hi } };
 }
 
 impl Range {
@@ -27,6 +39,15 @@ impl Range {
         } else {
             None
         }
+    }
+
+    /// How many bytes it has.
+    pub fn count(self) -> usize
+        ensures count { result ≡ self.hi - self.lo }
+        ensures ordered { self.lo < self.hi }
+        ensures in_block { self.hi ≤ BLOCK_SIZE }
+    {
+        usize::from(self.hi - self.lo)
     }
 }
 
