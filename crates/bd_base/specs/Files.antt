@@ -13,3 +13,7 @@ parts_for blocks = (blocks + (PART_BLOCKS - 1)) / PART_BLOCKS
 -- how many bytes of block number index belong to a file of this size and these blocks; 0 where there is no such block
 abbrev pub limit_of : ℕ → List ℕ → ℕ → ℕ
 limit_of size blocks index = cond (nat_lt index (length blocks)) (min BLOCK_SIZE (size - BLOCK_SIZE * index)) 0
+
+-- the first data block of an image with this many records
+abbrev pub data_start : ℕ → ℕ
+data_start inodes = 2 + inodes / 16

@@ -3,4 +3,7 @@ pub mod Bounds
 pub mod Bytes
 pub mod Extents
 pub mod Files
+pub mod Names
+pub mod Pieces
 pub mod Policy
+pub mod Volumes

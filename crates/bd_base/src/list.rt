@@ -1,5 +1,5 @@
 //! Lists, and the error of a call that found no memory.
-ghost use Rattle.std.specs.Prelude.{◌≡◌, ℕ, ◌+◌, ◌<◌, List, [], ◌∷◌, ◌++◌, length, OnOk, OnErr, IsSome, IsTrue, ◌↔◌};
+ghost use Rattle.std.specs.Prelude.{◌≡◌, ℕ, ◌+◌, ◌<◌, List, [], ◌∷◌, ◌++◌, length, OnOk, OnErr, IfOk, IsSome, IsTrue, ◌↔◌, ◌≤◌, slice_range};
 ghost use Rattle.std.specs.Option.{option_to_list};
 
 use std::alloc::{AllocError, AllocFailed, Global};
@@ -43,6 +43,23 @@ impl<T> List<T> {
     {
         List {
             items: Vec::new(alloc),
+        }
+    }
+
+    /// An empty list with room for this many items.
+    pub fn with_capacity(alloc: Global, capacity: usize) -> Result<List<T>, OutOfMemory>
+        ensures { IfOk result (λ list. list ≡ []) }
+    {
+        let items = Vec::with_capacity(alloc, capacity)?;
+        Ok(List { items })
+    }
+
+    /// An empty list with the allocator of this one. It takes no memory.
+    pub fn emptied(&self) -> List<T>
+        ensures { result ≡ [] }
+    {
+        List {
+            items: Vec::new(*self.items.allocator()),
         }
     }
 
@@ -91,6 +108,28 @@ impl<T> List<T> {
         ensures { IsTrue result ↔ (self.now ≡ []) }
     {
         self.items.is_empty()
+    }
+
+    /// A list of the items from place `from` to place `to` - 1.
+    pub fn copy_range(&self, from: usize, to: usize) -> Result<List<T>, OutOfMemory>
+    where
+        T: Copy,
+        requires ordered { from ≤ to }
+        requires within { to ≤ length self.now }
+        ensures { IfOk result (λ list. list ≡ slice_range self.now from to) }
+    {
+        let items = Vec::from_slice(*self.items.allocator(), &self.items.as_slice()[from..to])?;
+        Ok(List { items })
+    }
+
+    /// A list of the same items.
+    pub fn copy(&self) -> Result<List<T>, OutOfMemory>
+    where
+        T: Copy,
+        ensures { IfOk result (λ list. list ≡ self.now) }
+    {
+        let items = Vec::from_slice(*self.items.allocator(), self.items.as_slice())?;
+        Ok(List { items })
     }
 
     /// The items.

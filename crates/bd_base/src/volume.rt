@@ -1,5 +1,7 @@
 //! Files and volumes: what an image says.
-use crate::list::{Bytes, List};
+ghost use Rattle.std.specs.Prelude.{◌≡◌, IfOk};
+
+use crate::list::{Bytes, List, OutOfMemory};
 use crate::numbers::BlockNo;
 
 /// A file's name.
@@ -26,6 +28,42 @@ pub struct Inode {
     pub blocks: BlockList,
 }
 
+impl Inode {
+    /// The same file.
+    pub fn copy(&self) -> Result<Inode, OutOfMemory>
+        ensures { IfOk result (λ inode. inode ≡ self.now) }
+    {
+        Ok(Inode {
+            name: self.name.copy()?,
+            owner: self.owner,
+            perms: self.perms,
+            size: self.size,
+            blocks: self.blocks.copy()?,
+        })
+    }
+}
+
+/// The same file in a slot.
+fn copy_slot(slot: &Option<Inode>) -> Result<Option<Inode>, OutOfMemory>
+    ensures { IfOk result (λ copy. copy ≡ slot.now) }
+{
+    match slot {
+        Some(file) => Ok(Some(file.copy()?)),
+        None => Ok(None),
+    }
+}
+
+/// The same files.
+fn copy_inodes(inodes: &InodeList) -> Result<InodeList, OutOfMemory>
+    ensures { IfOk result (λ copy. copy ≡ inodes.now) }
+{
+    let mut copy = inodes.emptied();
+    for slot in inodes.as_slice() {
+        copy.push(copy_slot(slot)?)?;
+    }
+    Ok(copy)
+}
+
 /// Blocks in a row: `length` of them from `start` on.
 #[derive(Clone, Copy, Debug, PartialEq, Eq)]
 pub struct Extent {
@@ -45,4 +83,17 @@ pub struct Volume {
     pub inodes: InodeList,
     /// The bytes of all blocks, block b from 4096 * b on; those of the metadata blocks are 0.
     pub bytes: Bytes,
+}
+
+impl Volume {
+    /// The same volume.
+    pub fn copy(&self) -> Result<Volume, OutOfMemory>
+        ensures { IfOk result (λ volume. volume ≡ self.now) }
+    {
+        Ok(Volume {
+            total: self.total,
+            inodes: copy_inodes(&self.inodes)?,
+            bytes: self.bytes.copy()?,
+        })
+    }
 }

@@ -1,0 +1,12 @@
+pub mod Parts
+pub mod Actions
+pub mod Histories
+pub mod Legality
+pub mod Turning
+pub mod Entering
+pub mod Reading
+pub mod Stepping
+pub mod Resting
+pub mod Kept
+pub mod RoundTurns
+pub mod RunToEnd

@@ -1,0 +1,208 @@
+-- The plain store: files as lists of blocks, the bytes of all blocks, and descriptors with sets of rights.
+use Rattle.std.specs.Prelude.{◌≡◌, ◌≢◌, ℕ, ◌+◌, ◌*◌, ◌<◌, ◌≤◌, nat_eq, nat_lt, cond, Bool, false, ◌&&◌, not, List, [], ◌∷◌, map, filter, length, slice_get, slice_index_or, slice_set, Option, None, Some, IsSome, All, Contains, IsTrue, true, ◌||◌, ◌/◌, ◌%◌, replicate}
+use Rattle.std.specs.Option.{option_and_then, option_map_or}
+use Rattle.std.specs.List.{find, flat_map, list_any, position_from, range_with_len}
+use Rattle.std.specs.Str.{bytes_eq}
+use Rattle.bd_base.specs.declared.limits.TheConstants.{BLOCK_SIZE, FILE_SIZE, FRAGMENTS, DESCRIPTORS}
+use Rattle.bd_base.specs.declared.volume.Inode.{Inode}
+use Rattle.bd_base.specs.declared.volume.Volume.{Volume}
+use Rattle.bd_base.specs.declared.script.How.{How}
+use Rattle.bd_base.specs.declared.script.How.TheVariants.{Plain, Direct}
+use Rattle.bd_base.specs.declared.script.Mode.{Mode}
+use Rattle.bd_base.specs.declared.script.Process.{Process}
+use Rattle.bd_base.specs.declared.script.Script.{Script}
+use Rattle.bd_base.specs.Extents.{extents_of}
+use Rattle.bd_base.specs.Files.{blocks_for, data_start, limit_of, parts_for}
+use Rattle.bd_machine.specs.declared.entry.Entry.{Entry}
+use Rattle.bd_machine.specs.declared.entry.Entry.TheVariants.{Attached}
+
+-- an open descriptor: its file, how it reaches it, which parts of the file it has rights on, which of these are cleared, and the sizes that the process knows and was told
+pub record Descriptor : Type 0 where
+  pub file : ℕ
+  pub mode : Mode
+  pub how : How
+  pub attached : List ℕ  -- in ascending order
+  pub cleared : List ℕ  -- in ascending order
+  pub known : ℕ
+  pub told : ℕ
+
+-- the files by their ids, the bytes of all blocks, the descriptors of each process by their numbers, and the entries of each process's running call
+pub record Store : Type 0 where
+  pub total : ℕ
+  pub uids : List ℕ
+  pub files : List (Option Inode)
+  pub bytes : List ℕ
+  pub opens : List (List (Option Descriptor))
+  pub work : List (List Entry)
+
+-- what stands at an index of a list of slots
+abbrev pub in_slot : {X : Type 0} → List (Option X) → ℕ → Option X
+in_slot slots i = option_and_then (λ slot. slot) (slice_get slots i)
+
+abbrev pub file_at : Store → ℕ → Option Inode
+file_at s file = in_slot s.files file
+
+-- the size of a file, 0 where there is none
+abbrev pub size_of : Store → ℕ → ℕ
+size_of s file = option_map_or (λ (f : Inode). f.size) (file_at s file) 0
+
+-- the blocks of a file, none where there is no such file
+abbrev pub blocks_in : Store → ℕ → List ℕ
+blocks_in s file = option_map_or (λ (f : Inode). f.blocks) (file_at s file) []
+
+-- how many bytes of block number index belong to the file
+abbrev pub limit_at : Store → ℕ → ℕ → ℕ
+limit_at s file index = limit_of (size_of s file) (blocks_in s file) index
+
+-- how many parts the file has
+abbrev pub parts_in : Store → ℕ → ℕ
+parts_in s file = parts_for (length (blocks_in s file))
+
+-- the descriptors of a process by their numbers
+abbrev pub slots_of : Store → ℕ → List (Option Descriptor)
+slots_of s process = slice_index_or s.opens process []
+
+abbrev pub descriptor_at : Store → ℕ → ℕ → Option Descriptor
+descriptor_at s process fd = in_slot (slots_of s process) fd
+
+-- the entries of the running call of a process
+abbrev pub work_of : Store → ℕ → List Entry
+work_of s process = slice_index_or s.work process []
+
+-- whether the file in a slot has this name
+abbrev pub has_name : List ℕ → Option Inode → Bool
+has_name name None = false
+has_name name (Some file) = bytes_eq file.name name
+
+-- the file of this name
+abbrev pub file_named : List (Option Inode) → List ℕ → Option ℕ
+file_named files name = position_from (has_name name) 0 files
+
+-- a block of the data area that no file owns
+pub record IsFree (s : Store) (block : ℕ) : Type 0 where
+  pub in_data_area : data_start (length s.files) ≤ block
+  pub below_end : block < s.total
+  pub of_no_file : (file : ℕ) → ¬ Contains (blocks_in s file) block
+
+-- the process has a right on this part of this file, by this descriptor
+pub record HasRight (s : Store) (process fd file part : ℕ) : Type 0 where
+  pub descriptor : Descriptor
+  pub is_open : descriptor_at s process fd ≡ Some descriptor
+  pub of_file : descriptor.file ≡ file
+  pub attached : Contains descriptor.attached part
+
+-- the part joins a set of parts
+abbrev pub with_part : ℕ → List ℕ → List ℕ
+with_part part [] = part ∷ []
+with_part part (x ∷ xs) = cond (nat_lt part x) (part ∷ x ∷ xs) (cond (nat_eq part x) (x ∷ xs) (x ∷ with_part part xs))
+
+abbrev pub has_part : ℕ → List ℕ → Bool
+has_part part parts = list_any (nat_eq part) parts
+
+-- a file and one of its parts
+abbrev pub same_pair : (ℕ × ℕ) → (ℕ × ℕ) → Bool
+same_pair a b = nat_eq a.0 b.0 && nat_eq a.1 b.1
+
+-- the pairs that a descriptor in a slot has rights on
+abbrev pub pairs_of_slot : Option Descriptor → List (ℕ × ℕ)
+pairs_of_slot None = []
+pairs_of_slot (Some d) = map (λ part. (d.file, part)) d.attached
+
+-- each of these pairs once
+abbrev pub distinct_pairs : List (ℕ × ℕ) → List (ℕ × ℕ)
+distinct_pairs [] = []
+distinct_pairs (pair ∷ pairs) = pair ∷ filter (λ other. not (same_pair pair other)) (distinct_pairs pairs)
+
+-- the pairs of a file and a part that some right stands on
+abbrev pub pairs_in_use : Store → List (ℕ × ℕ)
+pairs_in_use s = distinct_pairs (flat_map (flat_map pairs_of_slot) s.opens)
+
+-- whether a right can be given on this pair: some right stands on it already, or fewer pairs than fragments are in use
+abbrev pub has_fragment : Store → ℕ → ℕ → Bool
+has_fragment s file part =
+    list_any (same_pair (file, part)) (pairs_in_use s) || nat_lt (length (pairs_in_use s)) FRAGMENTS
+
+-- whether a slot has a plain descriptor of the file
+abbrev pub is_plain_of : ℕ → Option Descriptor → Bool
+is_plain_of file None = false
+is_plain_of file (Some d) = nat_eq d.file file && is_plain d.how
+  where
+    is_plain : How → Bool
+    is_plain Plain = true
+    is_plain Direct = false
+
+-- whether some process has a plain descriptor of the file
+abbrev pub has_plain : Store → ℕ → Bool
+has_plain s file = list_any (list_any (is_plain_of file)) s.opens
+
+-- the lowest part of its file that a descriptor has no right on
+abbrev pub lowest_unattached : Store → Descriptor → Option ℕ
+lowest_unattached s d = find (λ part. not (has_part part d.attached)) (range_with_len 0 (parts_in s d.file))
+
+-- the part on which a descriptor can be given a right next
+abbrev pub next_part : Store → Descriptor → Option ℕ
+next_part s d =
+    option_and_then
+    (λ part. cond (not (has_plain s d.file) && has_fragment s d.file part) (Some part) None)
+    (lowest_unattached s d)
+
+abbrev pub is_empty_slot : Option Descriptor → Bool
+is_empty_slot None = true
+is_empty_slot (Some d) = false
+
+-- the lowest descriptor number that the process has not open
+abbrev pub lowest_fd : Store → ℕ → Option ℕ
+lowest_fd s process = position_from is_empty_slot 0 (slots_of s process)
+
+-- the store with this in the slot of a descriptor
+abbrev pub with_slot : Store → ℕ → ℕ → Option Descriptor → Store
+with_slot s process fd slot = record s { opens = slice_set s.opens process (slice_set (slots_of s process) fd slot) }
+
+-- the store with these as the entries of a process's running call
+abbrev pub with_work : Store → ℕ → List Entry → Store
+with_work s process entries = record s { work = slice_set s.work process entries }
+
+-- what a file of a valid store is
+pub record IsFile (f : Inode) : Type 0 where
+  pub size : f.size ≤ FILE_SIZE
+  pub blocks : length f.blocks ≡ blocks_for f.size
+  pub runs : length (extents_of f.blocks) ≤ 24
+
+-- the block of a file lies in the data area
+abbrev pub InDataArea : Store → ℕ → Type 0
+InDataArea s block = (data_start (length s.files) ≤ block) × (block < s.total)
+
+-- whether the entry attaches a right by this descriptor
+abbrev pub attaches_by : ℕ → Entry → Bool
+attaches_by fd (Attached at by part) = nat_eq by fd
+attaches_by fd entry = false
+
+-- what a descriptor of a valid store is; while its process's running call attaches rights, the sizes may be those of another time
+pub record IsDescriptor (s : Store) (process fd : ℕ) (d : Descriptor) : Type 0 where
+  pub of_file : IsSome (file_at s d.file)
+  pub parts : All (λ part. part < parts_in s d.file) d.attached
+  pub cleared : All (λ part. IsTrue (has_part part d.attached)) d.cleared
+  pub sizes : d.attached ≢ [] → list_any (attaches_by fd) (work_of s process) ≡ false → (d.known ≤ size_of s d.file) × (d.told ≤ size_of s d.file)
+  pub direct : d.attached ≢ [] → (d.how ≡ Direct) × (has_plain s d.file ≡ false)
+
+-- what every store that a legal journal leads to is
+pub record Valid (s : Store) : Type 0 where
+  pub files : (id : ℕ) (f : Inode) → file_at s id ≡ Some f → IsFile f
+  pub in_area : (id block : ℕ) → Contains (blocks_in s id) block → InDataArea s block
+  pub disjoint : (i j block : ℕ) → Contains (blocks_in s i) block → Contains (blocks_in s j) block → i ≡ j
+  pub once : (id i j d : ℕ) → i < length (blocks_in s id) → j < length (blocks_in s id) → slice_index_or (blocks_in s id) i d ≡ slice_index_or (blocks_in s id) j d → i ≡ j
+  pub tails : (id i d : ℕ) → size_of s id ≤ i → i < BLOCK_SIZE * length (blocks_in s id) → slice_index_or s.bytes (BLOCK_SIZE * slice_index_or (blocks_in s id) (i / BLOCK_SIZE) d + i % BLOCK_SIZE) 0 ≡ 0
+  pub names : (i j : ℕ) (f g : Inode) → file_at s i ≡ Some f → file_at s j ≡ Some g → f.name ≡ g.name → i ≡ j
+  pub descriptors : (process fd : ℕ) (d : Descriptor) → descriptor_at s process fd ≡ Some d → IsDescriptor s process fd d
+
+-- the store of a volume with nothing open
+abbrev pub start_store : Volume → Script → Store
+start_store v script =
+    record {
+      total = v.total;
+      uids = map (λ (p : Process). p.uid) script.processes;
+      files = v.inodes;
+      bytes = v.bytes;
+      opens = map (λ (p : Process). replicate DESCRIPTORS None) script.processes;
+      work = map (λ (p : Process). []) script.processes;
+    }

@@ -1,0 +1,16 @@
+//! The machine: processes whose calls are taken turn by turn, and the journal that they leave.
+#![tactic(auto)]
+
+mod entry;
+mod files;
+mod machine;
+mod open_file;
+mod processor;
+mod rounds;
+mod run;
+mod turn;
+
+pub use entry::{At, Entry, EntryList, Way};
+pub use machine::Machine;
+pub use rounds::replay;
+pub use turn::{Event, EventList, Row, Turn};
