@@ -9,9 +9,9 @@ use std::alloc::{AllocError, Global};
 /// Why a text was not read as runs.
 #[derive(Clone, Copy, Debug, PartialEq, Eq)]
 pub enum RunsError {
-    /// The text is the runs of no bytes.
+    /// The text is the runs of no list of bytes.
     NotRuns,
-    /// The text is the runs of more bytes than may be read.
+    /// The text is the runs of more bytes than may be read, however many.
     TooMany,
     /// No memory was found.
     OutOfMemory,
@@ -28,8 +28,9 @@ impl From<AllocError> for RunsError {
     }
 }
 
-/// Reads runs of at most `most` bytes. `NotRuns` and `TooMany` come exactly where the text is the runs of no bytes, and of more.
+/// Reads the bytes of which a text is the runs, where they are at most `most`.
 ///
+/// `NotRuns` comes exactly where the text is the runs of no list of bytes, and `TooMany` exactly where it is the runs of more.
 /// A count of any length is a number. No more than `most` bytes are made.
 pub fn read_runs(alloc: Global, text: &[u8], most: usize) -> Result<Bytes, RunsError>
     ensures spelled { IfOk result (λ b. runs_text b ≡ text.now) }
