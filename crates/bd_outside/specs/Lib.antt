@@ -1,0 +1,6 @@
+-- The words of the contracts of sources and sinks.
+pub mod Faults
+pub mod Memory
+pub mod Numbered
+pub mod Sink
+pub mod Source
