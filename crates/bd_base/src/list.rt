@@ -81,6 +81,16 @@ impl<T> List<T> {
         List { items }
     }
 
+    /// A list of the items of a slice.
+    pub fn from_slice(alloc: Global, items: &[T]) -> Result<List<T>, OutOfMemory>
+    where
+        T: Copy,
+        ensures { IfOk result (λ list. list ≡ items.now) }
+    {
+        let items = Vec::from_slice(alloc, items)?;
+        Ok(List { items })
+    }
+
     /// The items as a vector. It takes no memory.
     pub fn into_vec(self) -> Vec<T>
         ensures { result.items ≡ self }

@@ -10,3 +10,6 @@ pub mod Resting
 pub mod Kept
 pub mod RoundTurns
 pub mod RunToEnd
+pub mod Numbers
+pub mod Fields
+pub mod Wishes

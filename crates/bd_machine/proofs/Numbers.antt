@@ -1,11 +1,11 @@
 -- Numbers in decimal digits, as texts have them.
-use Rattle.std.specs.Prelude.{MatchOption, MatchResult}
+use Rattle.std.specs.Prelude.{MatchOption}
 use Rattle.std.specs.Result.{OkIff, result_ok}
 use Rattle.std.specs.Fmt.{decimal}
-use Rattle.std.specs.Str.{IsAscii, IsUtf8, all_ascii_digits}
-use Rattle.std.specs.Str.Parse.{AllDigits, IsNumeral, ParsesUnsigned, digits_value}
-use Rattle.std.proofs.Common.{◌≡◌, ◌≢◌, ◌⊎◌, ℕ, ◌+◌, ◌^◌, ◌<◌, ◌≤◌, Bool, true, false, List, [], ◌∷◌, length, get_or, Option, None, Some, Result, Ok, Err, refl, sym, ap, ◌∙◌, subst, arith, inl, inr, ⊎_elim, zero, suc}
-use Rattle.std.proofs.lemmas.Fmt.{IsAscii-decimal, decimal-digits_value, decimal_digit, decimal_is_IsNumeral, decimal_nonempty, digits_decimal, first_decimal, parse-decimal}
+use Rattle.std.specs.Str.{IsUtf8, all_ascii_digits}
+use Rattle.std.specs.Str.Parse.{AllDigits, ParsesUnsigned, digits_value}
+use Rattle.std.proofs.Common.{◌≡◌, ◌≢◌, ℕ, ◌^◌, ◌<◌, true, List, [], ◌∷◌, length, get_or, Result, Ok, Err, sym, ap, ◌∙◌, subst, arith, ⊎_elim}
+use Rattle.std.proofs.lemmas.Fmt.{IsAscii-decimal, decimal-digits_value, decimal_digit, decimal_nonempty, digits_decimal, first_decimal, parse-decimal}
 use Rattle.std.proofs.lemmas.Str.{IsUtf8-from_ascii}
 use Rattle.std.proofs.lemmas.Str.Parse.{IsNumeralModel, digit_at, numerals_by_value, parse_plain, tells_all_ascii_digits}
 use Rattle.std.proofs.lemmas.Bool.{cases_lt}
@@ -47,16 +47,16 @@ pub none_no_text : (ds : List ℕ) → ¬ (IsUtf8 ds) → NoNumber ds
 none_no_text ds not n small same = not (subst IsUtf8 (sym same) (IsUtf8-from_ascii (decimal n) (IsAscii-decimal n small)))
 
 -- a zero alone is the number zero
-pub one_zero : (ds : List ℕ) → get_or ds 0 0 ≡ 48 → length ds ≡ 1 → ds ≡ decimal 0
+pub one_zero : (ds : List ℕ) → get_or ds 0 0 ≡ 48 → length ds ≡ 1 → (0 < 2 ^ 64) × (ds ≡ decimal 0)
 one_zero [] first one = absurd (omega arith)
-one_zero (d ∷ []) first one = ap (λ (x : ℕ). x ∷ []) first ∙ sym (decimal_digit 0 (omega arith))
+one_zero (d ∷ []) first one = (omega arith, ap (λ (x : ℕ). x ∷ []) first ∙ sym (decimal_digit 0 (omega arith)))
 one_zero (d ∷ e ∷ ds) first one = absurd (omega arith)
 
 -- what `parse` gives is the number with these digits
 pub number_read : {E : Type 0} (ds : List ℕ) (r : Result ℕ E) → 0 < length ds → get_or ds 0 0 ≢ 43 → get_or ds 0 0 ≢ 48 → ParsesUnsigned 64 10 ds r →
-    MatchOption (result_ok r) (NoNumber ds) (λ n. ds ≡ decimal n)
+    MatchOption (result_ok r) (NoNumber ds) (λ n. (n < 2 ^ 64) × (ds ≡ decimal n))
 number_read {E} ds (Ok n) some not_plus not_zero parses =
     let is : OkIff {E = E} (Ok n) ((all_ascii_digits ds ≡ true) × (0 < length ds) × (digits_value 10 ds < 2 ^ 64)) (digits_value 10 ds) = parse_plain own {E = E} 64 ds (Ok n) parses not_plus in
-    sym (decimal-digits_value own ds is.0.0 some (λ zero_first. absurd (not_zero zero_first)) is.0.2) ∙ ap decimal (sym is.1)
+    (omega (arith, is.0.2, is.1), sym (decimal-digits_value own ds is.0.0 some (λ zero_first. absurd (not_zero zero_first)) is.0.2) ∙ ap decimal (sym is.1))
 number_read {E} ds (Err e) some not_plus not_zero parses =
     λ n small same. let no : ◌≡◌ {A = Result ℕ E} (Err e) (Ok n) = parse-decimal 64 n ds (Err e) small small same parses in absurd (let never : ⊥ = cc no in never)

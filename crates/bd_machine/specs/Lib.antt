@@ -7,3 +7,5 @@ pub mod Machine
 pub mod Course
 pub mod Simple
 pub mod Running
+pub mod Texts
+pub mod Refusals

@@ -1,5 +1,5 @@
 -- Simple scripts: one process opens a file for direct access and reads its beginning.
-use Rattle.std.specs.Prelude.{◌≡◌, ℕ, ◌^◌, ◌<◌, ◌≤◌, List, [], ◌∷◌, ◌++◌, None, Some, codes}
+use Rattle.std.specs.Prelude.{◌≢◌, ◌≡◌, ℕ, ◌^◌, ◌<◌, ◌≤◌, List, [], ◌∷◌, ◌++◌, None, Some, codes}
 use Rattle.std.specs.Fmt.{decimal}
 use Rattle.bd_base.specs.declared.limits.TheConstants.{BLOCK_SIZE}
 use Rattle.bd_base.specs.declared.script.Call.TheVariants.{Enter, Read}
@@ -35,6 +35,10 @@ abbrev pub simple_text : Wish → List ℕ
 simple_text w =
     codes "bypassd-script 1" ++ 10 ∷ codes "proc " ++ decimal w.uid ++ 10 ∷ codes "open " ++ w.name ++ codes " r direct"
     ++ 10 ∷ codes "read 0 0 " ++ decimal w.len ++ 10 ∷ []
+
+-- the text is that of no wish
+abbrev pub HasNoWish : List ℕ → Type 0
+HasNoWish text = (w : Wish) → w.uid < 2 ^ 32 → IsName w.name → w.len < 2 ^ 64 → text ≢ simple_text w
 
 -- the volume has the file, the policy lets the user read it, and at least one byte and at most its first block is read
 pub record Grants (v : Volume) (w : Wish) : Type 0 where

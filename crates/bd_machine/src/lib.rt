@@ -2,15 +2,19 @@
 #![tactic(auto)]
 
 mod entry;
+mod error;
 mod files;
 mod machine;
 mod open_file;
 mod processor;
 mod rounds;
 mod run;
+mod simple_script;
 mod turn;
 
 pub use entry::{At, Entry, EntryList, Way};
+pub use error::ScriptError;
 pub use machine::Machine;
 pub use rounds::replay;
+pub use simple_script::read_simple;
 pub use turn::{Event, EventList, Row, Turn};

@@ -32,7 +32,7 @@ pub(crate) fn call_count(script: &Script) -> u64
 }
 
 /// The file of this id.
-fn inode_of(volume: &Volume, file: FileId) -> Option<&Inode>
+pub(crate) fn inode_of(volume: &Volume, file: FileId) -> Option<&Inode>
     ensures { option_copied result ≡ in_slot volume.now.inodes file }
 {
     volume.inodes.as_slice().get(file.get() as usize)?.as_ref()

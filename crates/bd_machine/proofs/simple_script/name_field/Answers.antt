@@ -1,6 +1,5 @@
 use Rattle.std.specs.Prelude.{IsTrue}
-use Rattle.std.proofs.Common.{refl, ◌≡◌, false, List, ℕ, ◌∷◌, ◌++◌, sym, ap, ◌∙◌}
-use Rattle.bd_base.specs.Names.{IsName}
+use Rattle.std.proofs.Common.{refl, false, List, ℕ, ◌++◌, ap, ◌∙◌}
 use Rattle.bd_machine.proofs.Fields.{begins_with, no_front_name, no_name, not_begins_with}
 use Rattle.bd_machine.proofs.simple_script.name_field.Goals as goal
 
@@ -16,6 +15,7 @@ returns-then-not-is_name c =
 
 pub returns : goal.returns
 returns c =
-    let split = c.in-Some-split_at_byte.ensures in
-    (c.if-not-is_name.ensures.0 refl,
-      begins_with c.args.text.now c.args.front.now c.in-Some.rest c.in-Some.ensures.cases ∙ ap (λ (rest : List ℕ). c.args.front.now ++ rest) split.0)
+    let split = c.in-Some-split_at_byte.ensures in (
+      c.if-not-is_name.ensures.0 refl,
+      begins_with c.args.text.now c.args.front.now c.in-Some.rest c.in-Some.ensures.cases ∙ ap (λ (rest : List ℕ). c.args.front.now ++ rest) split.0,
+    )

@@ -1,9 +1,8 @@
 use Rattle.std.specs.Prelude.{MatchOption}
-use Rattle.std.specs.Result.{result_ok}
 use Rattle.std.specs.Fmt.{decimal}
 use Rattle.std.specs.Str.Parse.{ParsesUnsigned}
 use Rattle.std.proofs.lemmas.Grind.{common_steps}
-use Rattle.std.proofs.Common.{◌≡◌, ◌≢◌, ◌<◌, ◌≤◌, ℕ, List, Option, length, sym, ap, ◌∙◌, subst, arith}
+use Rattle.std.proofs.Common.{◌^◌, ◌≡◌, ◌<◌, ℕ, Option, length, sym, subst, arith}
 use Rattle.bd_machine.proofs.Numbers.{NoNumber, none_empty, none_no_text, none_plus, none_zero, number_read, one_zero}
 use Rattle.bd_machine.proofs.simple_script.read_number.Goals as goal
 
@@ -29,5 +28,5 @@ pub returns : goal.returns
 returns c =
     let some : 0 < length c.args.digits.now = grind (arith, common_steps, c.if-is_empty.ensures) in
     let parses : ParsesUnsigned 64 10 c.args.digits.now c.parse.result = rw c.in-Ok.ensures.cases.0 at c.parse.ensures.value.0 in
-    subst (λ (r : Option ℕ). MatchOption r (NoNumber c.args.digits.now) (λ n. c.args.digits.now ≡ decimal n)) (sym c.ok.ensures.value)
+    subst (λ (r : Option ℕ). MatchOption r (NoNumber c.args.digits.now) (λ n. (n < 2 ^ 64) × (c.args.digits.now ≡ decimal n))) (sym c.ok.ensures.value)
     (number_read c.args.digits.now c.parse.result some c.if-digits-eq43.false c.if-digits-eq48.false parses)
