@@ -7,5 +7,6 @@ pub mod Names
 pub mod Numbers
 pub mod Parts
 pub mod Records
+pub mod SetBits
 pub mod Taken
 pub mod Whole

@@ -59,6 +59,7 @@ inode-fits b j h there =
     ]
 
 image-within_limits : (b : List ℕ) → Accepted b → IsWithinLimits (volume_of b)
+unfolding volume_of
 image-within_limits b h =
     let m : ℕ = inode_count b in
     let meta : ℕ = 4096 * data_start m in
@@ -79,4 +80,5 @@ image-within_limits b h =
     }
 
 pub AcceptedVolume-within_limits : (v : Volume) → AcceptedVolume v → IsWithinLimits v
+unfolding AcceptedVolume
 AcceptedVolume-within_limits v (b, are, h, same) = subst IsWithinLimits (sym same) (image-within_limits b h)

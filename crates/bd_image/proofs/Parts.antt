@@ -1,5 +1,5 @@
 -- Parts of a list of bytes: n of them from place p on.
-use Rattle.std.proofs.Common.{◌≡◌, ◌≤◌, ◌<◌, ◌+◌, ◌*◌, ℕ, zero, suc, List, [], ◌∷◌, ◌++◌, length, take, drop, get_or, replicate, refl, ap, sym, ◌∙◌, arith}
+use Rattle.std.proofs.Common.{◌≡◌, ◌≤◌, ◌<◌, ◌+◌, ◌*◌, ℕ, zero, suc, List, [], ◌∷◌, ◌++◌, length, take, drop, get_or, replicate, refl, ap, sym, ◌∙◌, append_assoc, arith}
 use Rattle.std.proofs.Math.Seq.{take-add}
 use Rattle.std.proofs.lemmas.Grind.{same_number_lists}
 use Rattle.std.proofs.lemmas.List.{drop-drop, get_or-drop, get_or-replicate, get_or-take, length-drop, length-replicate, length-take}
@@ -62,3 +62,28 @@ part-pieces f b w p (suc n) a each =
     same_append (each a (omega arith) (omega arith)) (rest ∙ ap (λ (q : ℕ). part b q (w * n)) next)
     ∙ sym (part-add b (p + w * a) w (w * n))
     ∙ ap (λ (k : ℕ). part b (p + w * a) k) (sym more)
+
+-- five appends in a row are one
+pub appends-five : (l l₁ l₂ l₃ l₄ l₅ s t u v w : List ℕ) → l₁ ≡ l ++ s → l₂ ≡ l₁ ++ t → l₃ ≡ l₂ ++ u → l₄ ≡ l₃ ++ v → l₅ ≡ l₄ ++ w
+    → l₅ ≡ l ++ (s ++ t ++ u ++ v ++ w)
+appends-five l l₁ l₂ l₃ l₄ l₅ s t u v w a b c d e =
+    e ∙ ap (λ (k : List ℕ). k ++ w) (d ∙ ap (λ (k : List ℕ). k ++ v) (c ∙ ap (λ (k : List ℕ). k ++ u) (b ∙ ap (λ (k : List ℕ). k ++ t) a)))
+    ∙ simp append_assoc
+
+-- the appends that make up a record
+pub appends-record : (l l₁ l₂ l₃ l₄ l₅ l₆ l₇ l₈ : List ℕ) (used perms : ℕ) (count owner size name pad extents rest : List ℕ)
+    → l₁ ≡ l ++ used ∷ [] → l₂ ≡ l₁ ++ perms ∷ [] → l₃ ≡ l₂ ++ count → l₄ ≡ l₃ ++ owner → l₅ ≡ l₄ ++ size → l₆ ≡ l₅ ++ name ++ pad
+    → l₇ ≡ l₆ ++ extents → l₈ ≡ l₇ ++ rest
+    → l₈ ≡ l ++ (used ∷ perms ∷ count ++ owner ++ size ++ name ++ pad ++ extents ++ rest)
+appends-record l l₁ l₂ l₃ l₄ l₅ l₆ l₇ l₈ used perms count owner size name pad extents rest a b c d e f g h =
+    let front : l₂ ≡ l ++ (used ∷ perms ∷ []) = b ∙ ap (λ (k : List ℕ). k ++ perms ∷ []) a ∙ append_assoc l (used ∷ []) (perms ∷ []) in
+    let next : l₃ ≡ l ++ (used ∷ perms ∷ count) = c ∙ ap (λ (k : List ℕ). k ++ count) front ∙ append_assoc l (used ∷ perms ∷ []) count in
+    let numbers : l₅ ≡ l ++ (used ∷ perms ∷ count ++ owner ++ size) =
+    e ∙ ap (λ (k : List ℕ). k ++ size) (d ∙ ap (λ (k : List ℕ). k ++ owner) next ∙ append_assoc l (used ∷ perms ∷ count) owner)
+    ∙ append_assoc l (used ∷ perms ∷ count ++ owner) size in
+    let named : l₆ ≡ l ++ (used ∷ perms ∷ count ++ owner ++ size ++ name ++ pad) =
+    f ∙ ap (λ (k : List ℕ). k ++ name ++ pad) numbers
+    ∙ ap (λ (k : List ℕ). k ++ pad) (append_assoc l (used ∷ perms ∷ count ++ owner ++ size) name)
+    ∙ append_assoc l (used ∷ perms ∷ count ++ owner ++ size ++ name) pad in
+    h ∙ ap (λ (k : List ℕ). k ++ rest) (g ∙ ap (λ (k : List ℕ). k ++ extents) named ∙ append_assoc l (used ∷ perms ∷ count ++ owner ++ size ++ name ++ pad) extents)
+    ∙ append_assoc l (used ∷ perms ∷ count ++ owner ++ size ++ name ++ pad ++ extents) rest

@@ -1,7 +1,8 @@
 -- An accepted image is the image of the volume that it says.
-use Rattle.std.proofs.Common.{◌≡◌, ◌≤◌, ◌+◌, ◌*◌, ◌%◌, ℕ, List, ◌++◌, length, drop, replicate, refl, ap, sym, ◌∙◌, arith}
+use Rattle.std.proofs.Common.{◌≡◌, ◌≤◌, ◌+◌, ◌*◌, ◌%◌, ℕ, List, [], ◌++◌, Option, length, drop, replicate, refl, ap, sym, ◌∙◌, arith}
 use Rattle.std.proofs.lemmas.List.{drop_at, length-replicate, take-append-drop}
 use Rattle.std.specs.List.{flat_map}
+use Rattle.bd_base.specs.declared.volume.Inode.{Inode}
 use Rattle.bd_base.specs.declared.volume.Volume.{Volume}
 use Rattle.bd_base.specs.Bytes.{AreBytes}
 use Rattle.bd_image.specs.Layout.{block_count, data_start, inode_count}
@@ -37,6 +38,7 @@ records_within b h =
     omega arith
 
 pub image_of-volume_of : (b : List ℕ) → AreBytes b → Accepted b → image_of (volume_of b) ≡ b
+unfolding image_of volume_of
 image_of-volume_of b are h =
     let m : ℕ = inode_count b in
     let within : 8192 + 256 * inode_count b ≤ length b = records_within b h in
@@ -50,5 +52,22 @@ image_of-volume_of b are h =
     ∙ four_parts b m
 
 pub volume_of-image_of : (v : Volume) → AcceptedVolume v → volume_of (image_of v) ≡ v
+unfolding AcceptedVolume
 volume_of-image_of v (b, are, h, same) =
     ap (λ (w : Volume). volume_of (image_of w)) same ∙ ap volume_of (image_of-volume_of b are h) ∙ sym same
+
+-- the four appends that make up the image of a volume
+pub appends-image : (v : Volume) (l l₁ l₂ l₃ l₄ bytes : List ℕ) (inodes : List (Option Inode)) → inodes ≡ v.inodes → bytes ≡ v.bytes
+    → length v.inodes % 16 ≡ 0 → l ≡ [] → l₁ ≡ l ++ header_bytes v.total (length inodes) → l₂ ≡ l₁ ++ bitmap_bytes inodes
+    → l₃ ≡ l₂ ++ flat_map record_bytes inodes → l₄ ≡ l₃ ++ drop (8192 + 256 * length inodes) bytes → l₄ ≡ image_of v
+unfolding image_of
+appends-image v l l₁ l₂ l₃ l₄ bytes inodes same whole sixteen empty a b c d =
+    let head : l₁ ≡ header_bytes v.total (length v.inodes) =
+    a ∙ ap (λ (k : List ℕ). k ++ header_bytes v.total (length inodes)) empty ∙ ap (λ (xs : List (Option Inode)). header_bytes v.total (length xs)) same in
+    let bits : l₂ ≡ header_bytes v.total (length v.inodes) ++ bitmap_bytes v.inodes =
+    b ∙ same_append head (ap bitmap_bytes same) in
+    let records : l₃ ≡ header_bytes v.total (length v.inodes) ++ bitmap_bytes v.inodes ++ flat_map record_bytes v.inodes =
+    c ∙ same_append bits (ap (flat_map record_bytes) same) in
+    d ∙ same_append records
+    (ap (drop (8192 + 256 * length inodes)) whole ∙ ap (λ (xs : List (Option Inode)). drop (8192 + 256 * length xs) v.bytes) same
+    ∙ ap (λ (k : ℕ). drop k v.bytes) (sym (data_place (length v.inodes) sixteen)))

@@ -25,3 +25,8 @@ pub record IsWithinLimits (v : Volume) : Type 0 where
   pub most : v.total ≤ BLOCKS
   pub bytes : length v.bytes ≡ BLOCK_SIZE * v.total
   pub files : All (λ file. IfSome file (IsFile v.total (length v.inodes))) v.inodes
+
+-- a file whose record has room for its name and its extents
+pub record FitsRecord (file : Inode) : Type 0 where
+  pub name : length file.name ≤ 32
+  pub extents : length (extents_of file.blocks) ≤ MOST_EXTENTS

@@ -20,7 +20,7 @@ inode_at b j =
     None
 
 -- the volume that an image says; the bytes of its metadata are left out as zeros
-abbrev pub volume_of : List ℕ → Volume
+unfoldable pub volume_of : List ℕ → Volume
 volume_of b =
     let metadata = BLOCK_SIZE * data_start (inode_count b) in
     record {
@@ -30,7 +30,7 @@ volume_of b =
     }
 
 -- the volume is what some accepted image says
-abbrev pub AcceptedVolume : Volume → Type 0
+unfoldable pub AcceptedVolume : Volume → Type 0
 AcceptedVolume v = (b : List ℕ) × AreBytes b × Accepted b × (v ≡ volume_of b)
 
 -- the first block: the magic bytes, the version, the numbers of blocks and records, and zeros
@@ -76,7 +76,7 @@ record_bytes None = replicate RECORD_BYTES 0
 record_bytes (Some file) = file_bytes file
 
 -- the image of a volume
-abbrev pub image_of : Volume → List ℕ
+unfoldable pub image_of : Volume → List ℕ
 image_of v =
     header_bytes v.total (length v.inodes) ++ bitmap_bytes v.inodes ++ flat_map record_bytes v.inodes
     ++ drop (BLOCK_SIZE * data_start (length v.inodes)) v.bytes

@@ -1,8 +1,10 @@
 //! Disk images: what an image must hold, reading one into a volume, and writing a volume as an image.
 #![tactic(auto)]
 
+mod bits;
 mod laws;
 mod layout;
+mod writer;
 
 pub use laws::{number_gives_back_its_bytes, one_image, one_volume, volume_within_limits};
 pub use layout::{
@@ -10,3 +12,4 @@ pub use layout::{
     LEAST_LENGTH, LENGTH_PLACE, MAGIC, MOST_EXTENTS, MOST_INODES, MOST_LENGTH, NAME_FIELD,
     OWNER_FIELD, RECORD_BYTES, RECORDS_PLACE, SIZE_FIELD, VERSION, VERSION_PLACE,
 };
+pub use writer::render;
