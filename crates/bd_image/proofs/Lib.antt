@@ -5,6 +5,7 @@ pub mod Header
 pub mod Limits
 pub mod Names
 pub mod Numbers
+pub mod Owned
 pub mod Parts
 pub mod Records
 pub mod SetBits

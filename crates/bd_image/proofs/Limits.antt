@@ -12,9 +12,10 @@ use Rattle.bd_base.specs.declared.volume.Volume.{Volume}
 use Rattle.bd_base.specs.Extents.{blocks_of, extents_of}
 use Rattle.bd_image.specs.Layout.{IsUsed, block_count, blocks_at, data_start, extent_at, extent_count, inode_count, name_at, name_field, used_mark}
 use Rattle.bd_image.specs.Limits.{IsFile, IsWithinLimits}
-use Rattle.bd_image.specs.Rules.{Accepted, IsInDataArea, IsInodeCount, BlockCount, ExtentCount, ExtentJoins, ExtentRange, InodeCount, Length, NameForm, Perms, Size}
+use Rattle.bd_image.specs.Rules.{Accepted, IsInDataArea, IsInodeCount, BlockCount, ExtentCount, ExtentJoins, ExtentRange, ExtentShares, InodeCount, Length, NameForm, NameFresh, Perms, Size}
 use Rattle.bd_image.specs.Volumes.{AcceptedVolume, inode_at, volume_of}
 use Rattle.bd_image.proofs.Names.{name-found}
+use Rattle.bd_image.proofs.Owned.{owned_once, own_names}
 use Rattle.bd_image.proofs.Records.{extents_of-blocks_at}
 use Rattle.bd_image.proofs.Taken.{file_at, inodes_of, inodes_of-get_or, length-inodes_of}
 use Rattle.bd_image.proofs.Whole.{data_place, records_within}
@@ -77,6 +78,8 @@ image-within_limits b h =
           (λ j d low.
           let there : j < inode_count b = omega (arith, low, length-inodes_of b) in
           subst (λ (file : Option Inode). IfSome file (IsFile (block_count b) (inode_count b))) (sym (inodes_of-get_or b j d there)) (inode-fits b j h there));
+      owned_once = owned_once b (h ExtentShares);
+      own_names = own_names b (h NameForm) (h NameFresh);
     }
 
 pub AcceptedVolume-within_limits : (v : Volume) → AcceptedVolume v → IsWithinLimits v
