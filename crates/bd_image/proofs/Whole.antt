@@ -1,5 +1,5 @@
 -- An accepted image is the image of the volume that it says.
-use Rattle.std.proofs.Common.{◌≡◌, ◌≤◌, ◌+◌, ◌*◌, ◌%◌, ℕ, List, [], ◌++◌, Option, length, drop, replicate, refl, ap, sym, ◌∙◌, arith}
+use Rattle.std.proofs.Common.{◌≡◌, ◌≤◌, ◌+◌, ◌*◌, ◌%◌, ℕ, List, [], ◌++◌, Option, length, drop, replicate, refl, ap, sym, ◌∙◌, subst, arith}
 use Rattle.std.proofs.lemmas.List.{drop_at, length-replicate, take-append-drop}
 use Rattle.std.specs.List.{flat_map}
 use Rattle.bd_base.specs.declared.volume.Inode.{Inode}
@@ -55,6 +55,10 @@ pub volume_of-image_of : (v : Volume) → AcceptedVolume v → volume_of (image_
 unfolding AcceptedVolume
 volume_of-image_of v (b, are, h, same) =
     ap (λ (w : Volume). volume_of (image_of w)) same ∙ ap volume_of (image_of-volume_of b are h) ∙ sym same
+
+pub Accepted-image_of : (v : Volume) → AcceptedVolume v → Accepted (image_of v)
+unfolding AcceptedVolume
+Accepted-image_of v (b, are, h, same) = subst Accepted (sym (ap image_of same ∙ image_of-volume_of b are h)) h
 
 -- the four appends that make up the image of a volume
 pub appends-image : (v : Volume) (l l₁ l₂ l₃ l₄ bytes : List ℕ) (inodes : List (Option Inode)) → inodes ≡ v.inodes → bytes ≡ v.bytes

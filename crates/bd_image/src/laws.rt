@@ -17,9 +17,10 @@ pub fn one_image()
     ensures { (b : List ℕ) → AreBytes b → Accepted b → image_of (volume_of b) ≡ b }
 {}
 
-/// An accepted volume is the volume that its image says.
+/// The image of an accepted volume is accepted, and says that volume.
 pub fn one_volume()
-    ensures { (v : Volume) → AcceptedVolume v → volume_of (image_of v) ≡ v }
+    ensures accepted { (v : Volume) → AcceptedVolume v → Accepted (image_of v) }
+    ensures says { (v : Volume) → AcceptedVolume v → volume_of (image_of v) ≡ v }
 {}
 
 /// An accepted volume is within the limits of an image.

@@ -39,6 +39,8 @@ fn image_of(alloc: Global, volume: &Volume) -> Result<Bytes, OutOfMemory>
 pub fn render(alloc: Global, volume: &Volume) -> Result<Bytes, OutOfMemory>
     requires { AcceptedVolume volume.now }
     ensures image { IfOk result (λ image. image ≡ image_of volume.now) }
+    ensures accepted { IfOk result (λ image. Accepted image) }
+    ensures says { IfOk result (λ image. volume_of image ≡ volume.now) }
     ensures round_trip { (b : List ℕ) → AreBytes b → Accepted b → volume.now ≡ volume_of b → IfOk result (λ image. image ≡ b) }
 {
     image_of(alloc, volume)
