@@ -1,4 +1,6 @@
 -- What an image is: where its fields stand, the rules that it meets, and the volume that it says.
+pub mod Bits
 pub mod Layout
+pub mod Limits
 pub mod Rules
 pub mod Volumes

@@ -20,7 +20,7 @@ inode_at b j =
     None
 
 -- the volume that an image says; the bytes of its metadata are left out as zeros
-abbrev pub volume_of : List ℕ → Volume
+unfoldable pub volume_of : List ℕ → Volume
 volume_of b =
     let metadata = BLOCK_SIZE * data_start (inode_count b) in
     record {
@@ -30,11 +30,11 @@ volume_of b =
     }
 
 -- the volume is what some accepted image says
-abbrev pub AcceptedVolume : Volume → Type 0
+unfoldable pub AcceptedVolume : Volume → Type 0
 AcceptedVolume v = (b : List ℕ) × AreBytes b × Accepted b × (v ≡ volume_of b)
 
 -- the first block: the magic bytes, the version, the numbers of blocks and records, and zeros
-abbrev pub header_bytes : ℕ → ℕ → List ℕ
+unfoldable pub header_bytes : ℕ → ℕ → List ℕ
 header_bytes total inodes =
     codes "BYPDFS01" ++ little_bytes 4 VERSION ++ little_bytes 4 total ++ little_bytes 4 inodes ++ replicate (BLOCK_SIZE - HEADER_BYTES) 0
 
@@ -48,18 +48,22 @@ abbrev pub is_taken : List (Option Inode) → ℕ → Bool
 is_taken inodes x = nat_lt x (data_start (length inodes)) || list_any (owns_block x) inodes
 
 -- the byte of the bitmap for the eight blocks from x on
-abbrev pub bitmap_byte : List (Option Inode) → ℕ → ℕ
+unfoldable pub bitmap_byte : List (Option Inode) → ℕ → ℕ
 bitmap_byte inodes x = sum_by (λ k. cond (is_taken inodes (x + k)) (2 ^ k) 0) (range_with_len 0 8)
+
+-- the first n bytes of the bitmap
+unfoldable pub bitmap_front : ℕ → List (Option Inode) → List ℕ
+bitmap_front n inodes = map (λ i. bitmap_byte inodes (8 * i)) (range_with_len 0 n)
 
 -- the second block
 abbrev pub bitmap_bytes : List (Option Inode) → List ℕ
-bitmap_bytes inodes = map (λ i. bitmap_byte inodes (8 * i)) (range_with_len 0 BLOCK_SIZE)
+bitmap_bytes inodes = bitmap_front BLOCK_SIZE inodes
 
 abbrev pub extent_bytes : Extent → List ℕ
 extent_bytes e = little_bytes 4 e.start ++ little_bytes 4 e.length
 
 -- the record of a file
-abbrev pub file_bytes : Inode → List ℕ
+unfoldable pub file_bytes : Inode → List ℕ
 file_bytes file =
     let extents = extents_of file.blocks in
     1 ∷ file.perms ∷ little_bytes 2 (length extents) ++ little_bytes 4 file.owner ++ little_bytes 8 file.size
@@ -72,7 +76,7 @@ record_bytes None = replicate RECORD_BYTES 0
 record_bytes (Some file) = file_bytes file
 
 -- the image of a volume
-abbrev pub image_of : Volume → List ℕ
+unfoldable pub image_of : Volume → List ℕ
 image_of v =
     header_bytes v.total (length v.inodes) ++ bitmap_bytes v.inodes ++ flat_map record_bytes v.inodes
     ++ drop (BLOCK_SIZE * data_start (length v.inodes)) v.bytes

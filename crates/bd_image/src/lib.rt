@@ -1,10 +1,15 @@
 //! Disk images: what an image must hold, reading one into a volume, and writing a volume as an image.
 #![tactic(auto)]
 
+mod bits;
+mod laws;
 mod layout;
+mod writer;
 
+pub use laws::{number_gives_back_its_bytes, one_image, one_volume, volume_within_limits};
 pub use layout::{
     BITMAP_PLACE, EXTENT_BYTES, EXTENTS_FIELD, HEADER_BYTES, INODES_PLACE, LEAST_INODES,
     LEAST_LENGTH, LENGTH_PLACE, MAGIC, MOST_EXTENTS, MOST_INODES, MOST_LENGTH, NAME_FIELD,
     OWNER_FIELD, RECORD_BYTES, RECORDS_PLACE, SIZE_FIELD, VERSION, VERSION_PLACE,
 };
+pub use writer::render;

@@ -1,0 +1,15 @@
+-- The four appends make up the image.
+use Rattle.std.proofs.Common.{◌++◌, ◌+◌, ◌*◌, ℕ, List, length, ap, ◌∙◌}
+use Rattle.std.proofs.lemmas.List.{take_rest}
+use Rattle.bd_image.proofs.Whole.{appends-image}
+use Rattle.bd_image.proofs.writer.image_of.Goals as goal
+
+pub returns : goal.returns
+returns c =
+    let bytes : List ℕ = c.as_slice-bytes.result.now in
+    let place : ℕ = 8192 + 256 * length c.as_slice-inodes.result.now in
+    c.from_vec.ensures
+    ∙ appends-image c.args.volume.now c.in_ok-image.image.items c.push_header.new.out.items c.push_bitmap.new.out.items
+    c.push_records.new.out.items c.extend_from_slice.new.self.items bytes c.as_slice-inodes.result.now c.as_slice-inodes.ensures c.as_slice-bytes.ensures
+    c.requires.records.whole_blocks c.in_ok-image.ensures.items c.in_ok-push_header.ensures c.in_ok-push_bitmap.ensures c.in_ok-push_records.ensures
+    (c.in_ok-extend_from_slice.ensures.items ∙ ap (λ (l : List ℕ). c.push_records.new.out.items ++ l) (take_rest bytes place))

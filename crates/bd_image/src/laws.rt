@@ -1,0 +1,29 @@
+//! Laws of what an image and a volume are, each the contract of a function that does nothing.
+ghost use Rattle.std.specs.Prelude.{◌≡◌, ℕ, ◌≤◌, List, length, take};
+ghost use Rattle.byteorder.specs.Endian.{little_bytes, little_number};
+ghost use Rattle.bd_base.specs.Bytes.{AreBytes};
+ghost use Rattle.bd_base.specs.declared.volume.Volume.{Volume};
+ghost use Rattle.bd_image.specs.Limits.{IsWithinLimits};
+ghost use Rattle.bd_image.specs.Rules.{Accepted};
+ghost use Rattle.bd_image.specs.Volumes.{AcceptedVolume, image_of, volume_of};
+
+/// The bytes of the number that bytes were read as are these bytes, however many there are.
+pub fn number_gives_back_its_bytes()
+    ensures { (n : ℕ) → (bytes : List ℕ) → AreBytes bytes → n ≤ length bytes → little_bytes n (little_number n bytes) ≡ take n bytes }
+{}
+
+/// An accepted image is the image of the volume that it says, so each volume has one image.
+pub fn one_image()
+    ensures { (b : List ℕ) → AreBytes b → Accepted b → image_of (volume_of b) ≡ b }
+{}
+
+/// The image of an accepted volume is accepted, and says that volume.
+pub fn one_volume()
+    ensures accepted { (v : Volume) → AcceptedVolume v → Accepted (image_of v) }
+    ensures says { (v : Volume) → AcceptedVolume v → volume_of (image_of v) ≡ v }
+{}
+
+/// An accepted volume is within the limits of an image.
+pub fn volume_within_limits()
+    ensures { (v : Volume) → AcceptedVolume v → IsWithinLimits v }
+{}
