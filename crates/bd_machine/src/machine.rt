@@ -8,10 +8,10 @@ ghost use Rattle.bd_machine.specs.Machine.{LowersRest, SomeActorActs, all_ended,
 ghost use Rattle.bd_machine.specs.Running.{IsHistory, booted, stepped};
 ghost use Rattle.bd_machine.specs.Simple.{IsSimple};
 
-use crate::entry::Entry;
+use crate::entry::{Entry, EntryList};
 use crate::processor::{call_count, take_turn};
 use crate::run::Run;
-use crate::turn::{Event, Turn};
+use crate::turn::{Event, EventList, Turn};
 use bd_base::{Actor, List, OutOfMemory, Script, Volume};
 use std::alloc::Global;
 use std::marker::Model;
@@ -115,5 +115,14 @@ impl Machine {
         ensures { result.now ≡ self.now.state.script }
     {
         &self.script
+    }
+
+    /// The journal and the trace, in place of the machine.
+    pub fn into_history(self) -> (EntryList, EventList)
+        ensures journal { result.0 ≡ self.state.journal }
+        ensures trace { result.1 ≡ self.trace }
+    {
+        let Machine { run, .. } = self;
+        (run.journal, run.trace)
     }
 }
