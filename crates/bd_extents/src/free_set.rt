@@ -140,15 +140,14 @@ mod tests {
 
     #[test]
     fn takes_the_next_block_and_else_the_lowest(rt: HostRuntime) -> Result<(), Fail> {
-        let block = |number| BlockNo::new(number);
         let mut set = FreeSet::new(rt.alloc(), 16_384)?;
         assert_eq!(rt; set.peek(None), None);
-        set.give_back(block(3).ok_or("3")?);
-        set.give_back(block(9).ok_or("9")?);
-        assert_eq!(rt; set.peek(block(8)), block(9));
-        assert_eq!(rt; set.take(block(8)), block(9));
-        assert_eq!(rt; set.take(block(8)), block(3));
-        assert_eq!(rt; set.take(block(8)), None);
+        set.give_back(BlockNo::new(3).ok_or("three")?);
+        set.give_back(BlockNo::new(9).ok_or("nine")?);
+        assert_eq!(rt; set.peek(BlockNo::new(8)), BlockNo::new(9));
+        assert_eq!(rt; set.take(BlockNo::new(8)), BlockNo::new(9));
+        assert_eq!(rt; set.take(BlockNo::new(8)), BlockNo::new(3));
+        assert_eq!(rt; set.take(BlockNo::new(8)), None);
         Ok(())
     }
 }
