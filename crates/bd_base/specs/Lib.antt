@@ -1,8 +1,10 @@
 -- The definitions that the contracts of several crates cite.
+pub mod Allocation
 pub mod Bounds
 pub mod Bytes
 pub mod Extents
 pub mod Files
+pub mod Inodes
 pub mod Names
 pub mod Pieces
 pub mod Policy

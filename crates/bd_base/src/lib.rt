@@ -5,6 +5,7 @@ mod limits;
 mod list;
 mod numbers;
 mod range;
+mod reason;
 mod script;
 mod volume;
 
@@ -15,6 +16,7 @@ pub use limits::{
 pub use list::{Bytes, List, OutOfMemory};
 pub use numbers::{Actor, BlockNo, Fd, FileId, Part, Pid, Vba};
 pub use range::Range;
+pub use reason::Reason;
 pub use script::{
     Call, CallList, How, Item, ItemList, Mode, Process, ProcessList, ScheduleLine, ScheduleList,
     Script,
