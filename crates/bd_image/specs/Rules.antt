@@ -62,6 +62,11 @@ pub record IsInodeCount (m : ℕ) : Type 0 where
   pub least : LEAST_INODES ≤ m
   pub most : m ≤ MOST_INODES
 
+-- the image is long enough for its records, and they are of a number that it may have
+pub record HasRecords (b : List ℕ) : Type 0 where
+  pub length_fits : IsLength (length b)
+  pub count_fits : IsInodeCount (inode_count b)
+
 -- a byte of a name: a to z, 0 to 9, a dot, an underscore or a dash
 abbrev pub IsNameByte : ℕ → Type 0
 IsNameByte c = ((97 ≤ c) × (c ≤ 122)) ⊎ (((48 ≤ c) × (c ≤ 57)) ⊎ ((c ≡ 46) ⊎ ((c ≡ 95) ⊎ (c ≡ 45))))

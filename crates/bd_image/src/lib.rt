@@ -1,8 +1,11 @@
 //! Disk images: what an image must hold, reading one into a volume, and writing a volume as an image.
 #![tactic(auto)]
 
+mod error;
 mod layout;
+mod parse;
 
+pub use error::ImageError;
 pub use layout::{
     BITMAP_PLACE, EXTENT_BYTES, EXTENTS_FIELD, HEADER_BYTES, INODES_PLACE, LEAST_INODES,
     LEAST_LENGTH, LENGTH_PLACE, MAGIC, MOST_EXTENTS, MOST_INODES, MOST_LENGTH, NAME_FIELD,

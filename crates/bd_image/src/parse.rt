@@ -1,0 +1,2 @@
+//! Reading an image into a volume: the checks of the rules in their order, and then the files.
+mod fields;
