@@ -177,6 +177,11 @@ BreaksAt b TailZero place = (j : ℕ) × IsUsed b j × IsInTail b j place × (by
 BreaksAt b Bitmap place =
     (x : ℕ) × (x < 8 * BLOCK_SIZE) × ¬ (IsTrue (is_marked b x) ↔ IsTaken b x) × (place ≡ BITMAP_PLACE + x / 8)
 
+-- the rule is broken at this place, and at no lesser one
+pub record IsLeastBreak (b : List ℕ) (rule : Rule) (place : ℕ) : Type 0 where
+  pub breaks : BreaksAt b rule place
+  pub least : (q : ℕ) → q < place → ¬ BreaksAt b rule q
+
 -- the image breaks no rule
 abbrev pub Accepted : List ℕ → Type 0
 Accepted b = (rule : Rule) → Obeys b rule

@@ -1,2 +1,4 @@
 //! Reading an image into a volume: the checks of the rules in their order, and then the files.
 mod fields;
+mod header;
+mod zeros;
