@@ -1,6 +1,9 @@
 -- What the checks of single parts of an image find.
-use Rattle.std.specs.Prelude.{◌≡◌, ◌≢◌, ℕ, ◌<◌, ◌≤◌, ◌+◌, List, Option, Some, None}
-use Rattle.bd_image.specs.Layout.{byte_at}
+use Rattle.std.specs.Prelude.{◌≡◌, ◌≢◌, ℕ, ◌<◌, ◌≤◌, ◌+◌, List, map}
+use Rattle.bd_image.specs.Layout.{block_count, byte_at, extent_at, extent_count, inode_count}
+use Rattle.bd_image.specs.Rules.{IsInDataArea}
+use Rattle.bd_base.specs.Extents.{blocks_of}
+use Rattle.std.specs.List.{range_with_len}
 
 -- the first number below n at which the fact does not hold
 pub record IsFirstFault (Holds : ℕ → Type 0) (n found : ℕ) : Type 0 where
@@ -18,3 +21,23 @@ pub record IsFirstNonzero (b : List ℕ) (low high found : ℕ) : Type 0 where
   pub within : found < high
   pub not_zero : byte_at b found ≢ 0
   pub before : AreZero b low found
+
+-- none of the first n extents of record j begins where the one before it ends
+abbrev pub HasNoJoin : List ℕ → ℕ → ℕ → Type 0
+HasNoJoin b j n = (e : ℕ) → e + 1 < n → (extent_at b j (e + 1)).start ≢ (extent_at b j e).start + (extent_at b j e).length
+
+-- the first extent of record j that begins where the one before it ends
+pub record IsFirstJoin (b : List ℕ) (j found : ℕ) : Type 0 where
+  pub previous : ℕ
+  pub next : found ≡ previous + 1
+  pub within : found < extent_count b j
+  pub joins : (extent_at b j found).start ≡ (extent_at b j previous).start + (extent_at b j previous).length
+  pub before : HasNoJoin b j found
+
+-- extent e of record j lies in the data area
+abbrev pub IsInside : List ℕ → ℕ → ℕ → Type 0
+IsInside b j e = IsInDataArea (block_count b) (inode_count b) (extent_at b j e)
+
+-- the blocks of the first n extents of record j
+abbrev pub blocks_before : List ℕ → ℕ → ℕ → List ℕ
+blocks_before b j n = blocks_of (map (extent_at b j) (range_with_len 0 n))
