@@ -1,5 +1,5 @@
 -- What the checks of single parts of an image find.
-use Rattle.std.specs.Prelude.{◌≡◌, ◌≢◌, ℕ, ◌<◌, ◌≤◌, ◌+◌, List, map}
+use Rattle.std.specs.Prelude.{◌≡◌, ◌≢◌, ℕ, ◌<◌, ◌≤◌, ◌+◌, List, length, map, slice_index}
 use Rattle.bd_image.specs.Layout.{block_count, byte_at, extent_at, extent_count, inode_count}
 use Rattle.bd_image.specs.Rules.{IsInDataArea}
 use Rattle.bd_base.specs.Extents.{blocks_of}
@@ -41,3 +41,7 @@ IsInside b j e = IsInDataArea (block_count b) (inode_count b) (extent_at b j e)
 -- the blocks of the first n extents of record j
 abbrev pub blocks_before : List ℕ → ℕ → ℕ → List ℕ
 blocks_before b j n = blocks_of (map (extent_at b j) (range_with_len 0 n))
+
+-- all bytes from this place on are zero
+abbrev pub ZeroesFrom : List ℕ → ℕ → Type 0
+ZeroesFrom field start = (k : ℕ) → start ≤ k → k < length field → slice_index field k ≡ 0

@@ -2,5 +2,6 @@
 mod extents;
 mod fields;
 mod header;
+mod names;
 mod records;
 mod zeros;

@@ -132,7 +132,8 @@ pub(crate) fn size_at(bytes: &[u8], j: u64) -> u64
 pub(crate) fn name_field(bytes: &[u8], j: u64) -> &[u8]
     requires image { HasRecords bytes.now }
     requires record { j < inode_count bytes.now }
-    ensures { result.now ≡ name_field bytes.now j }
+    ensures field { result.now ≡ name_field bytes.now j }
+    ensures long { length result.now ≡ 32 }
 {
     let start = (record_place(j) + NAME_FIELD) as usize;
     &bytes[start..start + 32]
