@@ -1,5 +1,6 @@
 -- What an image is: where its fields stand, the rules that it meets, and the volume that it says.
 pub mod Checks
 pub mod Layout
+pub mod Names
 pub mod Rules
 pub mod Volumes

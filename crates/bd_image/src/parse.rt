@@ -4,4 +4,5 @@ mod fields;
 mod header;
 mod names;
 mod records;
+mod seen;
 mod zeros;
