@@ -3,4 +3,5 @@ pub mod Checks
 pub mod Layout
 pub mod Names
 pub mod Rules
+pub mod Sharing
 pub mod Volumes

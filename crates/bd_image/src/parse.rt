@@ -5,4 +5,5 @@ mod header;
 mod names;
 mod records;
 mod seen;
+mod sharing;
 mod zeros;
