@@ -1,6 +1,7 @@
 //! Reading an image into a volume: the checks of the rules in their order, and then the files.
 mod extents;
 mod fields;
+mod files;
 mod header;
 mod names;
 mod records;
