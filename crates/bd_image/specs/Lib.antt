@@ -2,6 +2,7 @@
 pub mod Checks
 pub mod Layout
 pub mod Names
+pub mod Refusals
 pub mod Rules
 pub mod Sharing
 pub mod Volumes

@@ -5,6 +5,7 @@ mod files;
 mod header;
 mod names;
 mod records;
+mod rules;
 mod seen;
 mod sharing;
 mod zeros;

@@ -1,6 +1,6 @@
 use Rattle.std.proofs.Common.{arith}
 use Rattle.std.proofs.lemmas.Bool.{false≢true}
-use Rattle.bd_image.proofs.Names.{IsNameField-from_parts, zeroes_after_name}
+use Rattle.bd_image.proofs.NameFields.{IsNameField-from_parts, zeroes_after_name}
 use Rattle.bd_image.proofs.parse.names.is_name_field.Goals as goal
 
 pub returns : goal.returns
