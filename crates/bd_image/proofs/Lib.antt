@@ -3,3 +3,4 @@ pub mod NameFields
 pub mod RuleOrder
 pub mod Seen
 pub mod Sharing
+pub mod Tails

@@ -5,4 +5,5 @@ pub mod Names
 pub mod Refusals
 pub mod Rules
 pub mod Sharing
+pub mod Tails
 pub mod Volumes

@@ -8,4 +8,5 @@ mod records;
 mod rules;
 mod seen;
 mod sharing;
+mod tails;
 mod zeros;
