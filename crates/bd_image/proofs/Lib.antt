@@ -1,4 +1,5 @@
 pub mod Blocks
+pub mod Marks
 pub mod NameFields
 pub mod RuleOrder
 pub mod Seen

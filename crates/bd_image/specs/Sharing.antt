@@ -1,8 +1,8 @@
 -- Blocks that extents share.
-use Rattle.std.specs.Prelude.{◌≡◌, ℕ, ◌+◌, ◌<◌, ◌≤◌, ◌↔◌, Bool, false, List, length, slice_index_or, IsTrue}
+use Rattle.std.specs.Prelude.{◌≡◌, ℕ, ◌+◌, ◌<◌, ◌≤◌, ◌↔◌, ◌⊎◌, Bool, false, List, length, slice_index_or, Contains, IsTrue}
 use Rattle.bd_base.specs.declared.volume.Extent.{Extent}
-use Rattle.bd_image.specs.Layout.{block_count, extent_at, extent_count}
-use Rattle.bd_image.specs.Rules.{IsEarlier, IsExtent, ShareBlock}
+use Rattle.bd_image.specs.Layout.{block_count, blocks_at, data_start, extent_at, extent_count, inode_count, used_mark}
+use Rattle.bd_image.specs.Rules.{IsEarlier, IsExtent, IsTaken, ShareBlock}
 
 -- the block is in the extent
 abbrev pub IsInExtent : Extent → ℕ → Type 0
@@ -39,3 +39,13 @@ pub record IsFirstShare (b : List ℕ) (j found : ℕ) : Type 0 where
 pub record SharesNoneAndMarks (b : List ℕ) (taken : List Bool) (j : ℕ) : Type 0 where
   pub shares : SharesNone b j (extent_count b j)
   pub marks : MarksBefore b taken (j + 1) 0
+
+-- the map marks each block that is taken, and no others
+pub record MarksTaken (b : List ℕ) (taken : List Bool) : Type 0 where
+  pub long : length taken ≡ 32768
+  pub marks : (x : ℕ) → x < 32768 → IsTakenIn taken x ↔ IsTaken b x
+
+-- the map marks the metadata and the blocks of the files among the first j records
+pub record MarksFiles (b : List ℕ) (taken : List Bool) (j : ℕ) : Type 0 where
+  pub long : length taken ≡ 32768
+  pub marks : (x : ℕ) → x < 32768 → IsTakenIn taken x ↔ ((x < data_start (inode_count b)) ⊎ ((i : ℕ) × (i < j) × (used_mark b i ≡ 1) × Contains (blocks_at b i) x))

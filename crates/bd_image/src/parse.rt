@@ -1,4 +1,5 @@
 //! Reading an image into a volume: the checks of the rules in their order, and then the files.
+mod bitmap;
 mod extents;
 mod fields;
 mod files;

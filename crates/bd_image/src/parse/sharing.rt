@@ -26,7 +26,7 @@ fn is_any_taken(taken: &[bool], extent: Extent) -> bool
 }
 
 /// Marks the blocks of the extent.
-fn take_blocks(taken: &mut [bool], extent: Extent)
+pub(crate) fn take_blocks(taken: &mut [bool], extent: Extent)
     requires { extent.start + extent.length ≤ length taken.old }
     ensures { (x : ℕ) → x < length taken.old → IsTakenIn taken.new x ↔ (IsTakenIn taken.old x ⊎ IsInExtent extent x) }
 {
