@@ -2,7 +2,7 @@
 use Rattle.std.proofs.Common.{◌≡◌, ◌≢◌, ℕ, zero, suc, ◌+◌, ◌<◌, ◌≤◌, List, [], ◌∷◌, get_or, refl, sym, ap, ◌∙◌, subst, inl, inr, arith, le_antisymm}
 use Rattle.std.proofs.lemmas.Bool.{cases_lt}
 use Rattle.bd_image.specs.Refusals.{ObeysBelow}
-use Rattle.bd_image.specs.Rules.{Accepted, BreaksAt, Broken, IsLeastBreak, Obeys, Rule, rule_number, Bitmap, BlockCount, ExtentCount, ExtentJoins, ExtentRange, ExtentShares, FreeRecord, HeaderRest, InodeCount, Length, Magic, NameForm, NameFresh, Perms, RecordRest, Size, TailZero, UsedMark, Version}
+use Rattle.bd_image.specs.Rules.{Accepted, BreaksAt, Broken, HasRecords, IsLeastBreak, Obeys, Rule, rule_number, Bitmap, BlockCount, ExtentCount, ExtentJoins, ExtentRange, ExtentShares, FreeRecord, HeaderRest, InodeCount, Length, Magic, NameForm, NameFresh, Perms, RecordRest, Size, TailZero, UsedMark, Version}
 
 rules_in_order : List Rule
 rules_in_order = Length ∷ Length ∷ Magic ∷ Version ∷ BlockCount ∷ InodeCount ∷ HeaderRest ∷ UsedMark ∷ FreeRecord ∷ Perms ∷ ExtentCount ∷ NameForm ∷ NameFresh ∷ RecordRest ∷ ExtentRange ∷ ExtentJoins ∷ ExtentShares ∷ Size ∷ TailZero ∷ Bitmap ∷ []
@@ -66,6 +66,35 @@ met b r below here q h =
 -- the least rule that the image breaks, at its least place
 pub refused : (b : List ℕ) (r : Rule) (place : ℕ) → ObeysBelow b (rule_number r) → IsLeastBreak b r place → Broken b (rule_number r) place
 refused b r place below found = record { rule = r; number_is = refl; lesser = below; broken = found.breaks; least = found.least }
+
+below_twenty : (q : Rule) → rule_number q < 20
+below_twenty Length = omega arith
+below_twenty Magic = omega arith
+below_twenty Version = omega arith
+below_twenty BlockCount = omega arith
+below_twenty InodeCount = omega arith
+below_twenty HeaderRest = omega arith
+below_twenty UsedMark = omega arith
+below_twenty FreeRecord = omega arith
+below_twenty Perms = omega arith
+below_twenty ExtentCount = omega arith
+below_twenty NameForm = omega arith
+below_twenty NameFresh = omega arith
+below_twenty RecordRest = omega arith
+below_twenty ExtentRange = omega arith
+below_twenty ExtentJoins = omega arith
+below_twenty ExtentShares = omega arith
+below_twenty Size = omega arith
+below_twenty TailZero = omega arith
+below_twenty Bitmap = omega arith
+
+-- all rules have numbers below 20
+pub all_met : (b : List ℕ) → ObeysBelow b 20 → Accepted b
+all_met b below q = below q (below_twenty q)
+
+-- the image is long enough for its records
+pub has_records : (b : List ℕ) → ObeysBelow b 7 → HasRecords b
+has_records b below = record { length_fits = below Length (omega arith); count_fits = below InodeCount (omega arith) }
 
 -- a rule is not met where it is broken
 pub breaks_not : (b : List ℕ) (r : Rule) (place : ℕ) → BreaksAt b r place → ¬ Obeys b r

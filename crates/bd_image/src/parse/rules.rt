@@ -1,9 +1,10 @@
 //! The checks of all rules in their order.
 ghost use Rattle.std.specs.Prelude.{◌≡◌, ℕ, IfErr, OnOk};
 ghost use Rattle.bd_image.specs.Refusals.{IsRefusal, ObeysBelow};
-ghost use Rattle.bd_image.specs.Rules.{Accepted, BlockCount, ExtentCount, ExtentRange, HasRecords, NameForm, Obeys};
+ghost use Rattle.bd_image.specs.Rules.{Accepted, BlockCount, ExtentCount, ExtentRange, HasRecords, Obeys, Size};
 
 use crate::error::ImageError;
+use crate::parse::bitmap::check_bitmap;
 use crate::parse::extents::{check_extent_joins, check_extent_ranges, check_sizes};
 use crate::parse::header::{
     check_block_count, check_header_rest, check_inode_count, check_length, check_magic,
@@ -15,6 +16,7 @@ use crate::parse::records::{
 };
 use crate::parse::seen::check_names_fresh;
 use crate::parse::sharing::check_extent_shares;
+use crate::parse::tails::check_tails;
 use std::alloc::Global;
 
 /// The refusal for a broken rule.
@@ -102,4 +104,35 @@ fn check_extents(alloc: Global, bytes: &[u8]) -> Result<(), ImageError>
         return broken(17, place);
     }
     Ok(())
+}
+
+/// Checks the rules 18 and 19, those of blocks.
+fn check_blocks(alloc: Global, bytes: &[u8]) -> Result<(), ImageError>
+    requires image { HasRecords bytes.now }
+    requires extents { ObeysBelow bytes.now 18 }
+    requires total { Obeys bytes.now BlockCount }
+    requires counts { Obeys bytes.now ExtentCount }
+    requires ranges { Obeys bytes.now ExtentRange }
+    requires sizes { Obeys bytes.now Size }
+    ensures ok { OnOk result (Accepted bytes.now) }
+    ensures err { IfErr result (IsRefusal bytes.now) }
+{
+    if let Some(place) = check_tails(bytes) {
+        return broken(18, place);
+    }
+    if let Some(place) = check_bitmap(alloc, bytes)? {
+        return broken(19, place);
+    }
+    Ok(())
+}
+
+/// Checks all rules.
+pub(crate) fn check_rules(alloc: Global, bytes: &[u8]) -> Result<(), ImageError>
+    ensures ok { OnOk result (Accepted bytes.now) }
+    ensures err { IfErr result (IsRefusal bytes.now) }
+{
+    check_header(bytes)?;
+    check_records(alloc, bytes)?;
+    check_extents(alloc, bytes)?;
+    check_blocks(alloc, bytes)
 }
