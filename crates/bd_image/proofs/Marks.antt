@@ -29,15 +29,15 @@ pub extent_marked : (b : List ℕ) (j e x : ℕ) (old now after : Type 0) → (a
 extent_marked b j e x old now after step before =
     let g = extent_at b j e in
     let more = blocks_before-more b j e in
-    let Has : List ℕ → Type 0 = λ xs. Contains xs x in
-    ( λ t. elim (step.0 t) [
-        inl n ↦ elim (before.0 n) [ inl o ↦ inl o | inr h ↦ inr (subst Has (sym more) (Contains-append_left (blocks_before b j e) (range_with_len g.start g.length) x h)) ]
+    let Has : List ℕ → Type 0 = λ xs. Contains xs x in (
+      λ t. elim (step.0 t) [
+        | inl n ↦ elim (before.0 n) [ inl o ↦ inl o | inr h ↦ inr (subst Has (sym more) (Contains-append_left (blocks_before b j e) (range_with_len g.start g.length) x h)) ]
         | inr i ↦ inr (subst Has (sym more) (Contains-append_right (blocks_before b j e) (range_with_len g.start g.length) x (range_of g.start g.length x i)))
-      ]
-    , λ w. step.1 (elim w [
-        inl o ↦ inl (before.1 (inl o))
+      ],
+      λ w. step.1 (elim w [
+        | inl o ↦ inl (before.1 (inl o))
         | inr h ↦ elim (Contains-append_cases (blocks_before b j e) (range_with_len g.start g.length) x (subst Has more h)) [ inl k ↦ inl (before.1 (inr k)) | inr k ↦ inr (range_to g.start g.length x k) ]
-      ])
+      ]),
     )
 
 same : (i j : ℕ) → i < j + 1 → j ≤ i → i ≡ j
@@ -47,28 +47,28 @@ same i j l m = omega arith
 pub file_marked : (b : List ℕ) (taken after : List Bool) (j : ℕ) → MarksFiles b taken j → used_mark b j ≡ 1 → length after ≡ length taken → ((x : ℕ) → x < 32768 → IsTakenIn after x ↔ (IsTakenIn taken x ⊎ Contains (blocks_at b j) x)) → MarksFiles b after (j + 1)
 file_marked b taken after j h used long step = record {
   long = long ∙ h.long;
-  marks = λ x l.
-    ( λ t. elim ((step x l).0 t) [
-        inl n ↦ elim ((h.marks x l).0 n) [ inl m ↦ inl m | inr w ↦ inr (w.0, omega (arith, w.1), w.2, w.3) ]
-        | inr c ↦ inr (j, omega arith, used, c)
-      ]
-    , λ w. (step x l).1 (elim w [
-        inl m ↦ inl ((h.marks x l).1 (inl m))
-        | inr f ↦ elim (cases_lt f.0 j) [ inl m ↦ inl ((h.marks x l).1 (inr (f.0, m, f.2, f.3))) | inr m ↦ let Has : ℕ → Type 0 = λ i. Contains (blocks_at b i) x in inr (subst Has (same f.0 j f.1 m) f.3) ]
-      ])
-    );
+  marks = λ x l. (
+    λ t. elim ((step x l).0 t) [
+      | inl n ↦ elim ((h.marks x l).0 n) [ inl m ↦ inl m | inr w ↦ inr (w.0, omega (arith, w.1), w.2, w.3) ]
+      | inr c ↦ inr (j, omega arith, used, c)
+    ],
+    λ w. (step x l).1 (elim w [
+      | inl m ↦ inl ((h.marks x l).1 (inl m))
+      | inr f ↦ elim (cases_lt f.0 j) [ inl m ↦ inl ((h.marks x l).1 (inr (f.0, m, f.2, f.3))) | inr m ↦ let Has : ℕ → Type 0 = λ i. Contains (blocks_at b i) x in inr (subst Has (same f.0 j f.1 m) f.3) ]
+    ]),
+  );
 }
 
 pub free_marked : (b : List ℕ) (taken : List Bool) (j : ℕ) → MarksFiles b taken j → ¬ (used_mark b j ≡ 1) → MarksFiles b taken (j + 1)
 free_marked b taken j h free = record {
   long = h.long;
-  marks = λ x l.
-    ( λ t. elim ((h.marks x l).0 t) [ inl m ↦ inl m | inr w ↦ inr (w.0, omega (arith, w.1), w.2, w.3) ]
-    , λ w. (h.marks x l).1 (elim w [
-        inl m ↦ inl m
-        | inr f ↦ inr (f.0, elim (cases_lt f.0 j) [ inl m ↦ m | inr m ↦ absurd (free (subst (λ i. used_mark b i ≡ 1) (same f.0 j f.1 m) f.2)) ], f.2, f.3)
-      ])
-    );
+  marks = λ x l. (
+    λ t. elim ((h.marks x l).0 t) [ inl m ↦ inl m | inr w ↦ inr (w.0, omega (arith, w.1), w.2, w.3) ],
+    λ w. (h.marks x l).1 (elim w [
+      | inl m ↦ inl m
+      | inr f ↦ inr (f.0, elim (cases_lt f.0 j) [ inl m ↦ m | inr m ↦ absurd (free (subst (λ i. used_mark b i ≡ 1) (same f.0 j f.1 m) f.2)) ], f.2, f.3)
+    ]),
+  );
 }
 
 -- the metadata alone
@@ -76,20 +76,20 @@ pub metadata_marked : (b : List ℕ) (taken after : List Bool) (metadata : Exten
 metadata_marked b taken after metadata full clear start long keeps step = record {
   long = keeps ∙ full;
   marks = λ x l.
-    let at = step x (omega arith) in
-    ( λ t. elim (at.0 t) [ inl n ↦ absurd (clear x n) | inr i ↦ inl (omega (arith, i.1)) ]
-    , λ w. at.1 (elim w [ inl m ↦ inr (omega arith, omega arith) | inr f ↦ absurd (omega (arith, f.1)) ])
-    );
+      let at = step x (omega arith) in (
+        λ t. elim (at.0 t) [ inl n ↦ absurd (clear x n) | inr i ↦ inl (omega (arith, i.1)) ],
+        λ w. at.1 (elim w [ inl m ↦ inr (omega arith, omega arith) | inr f ↦ absurd (omega (arith, f.1)) ]),
+      );
 }
 
 -- all files
 pub all_marked : (b : List ℕ) (taken : List Bool) (j : ℕ) → MarksFiles b taken j → j ≡ inode_count b → MarksTaken b taken
 all_marked b taken j h all = record {
   long = h.long;
-  marks = λ x l.
-    ( λ t. elim ((h.marks x l).0 t) [ inl m ↦ inl m | inr f ↦ inr (f.0, (omega (arith, f.1), f.2), f.3) ]
-    , λ w. (h.marks x l).1 (elim w [ inl m ↦ inl m | inr f ↦ inr (f.0, omega (arith, f.1.0), f.1.1, f.2) ])
-    );
+  marks = λ x l. (
+    λ t. elim ((h.marks x l).0 t) [ inl m ↦ inl m | inr f ↦ inr (f.0, (omega (arith, f.1), f.2), f.3) ],
+    λ w. (h.marks x l).1 (elim w [ inl m ↦ inl m | inr f ↦ inr (f.0, omega (arith, f.1.0), f.1.1, f.2) ]),
+  );
 }
 
 -- a bit that is that of the map is right

@@ -28,18 +28,18 @@ pub record KnowsBefore {S : Type 0} (b : List ℕ) (seen : HashSet (Bor (List �
 
 pub knows_more : {S : Type 0} (b : List ℕ) (seen : HashSet (Bor (List ℕ)) S) (j : ℕ) → KnowsBefore b seen j → ¬ (used_mark b j ≡ 1) → KnowsBefore b seen (j + 1)
 knows_more b seen j known free = record {
-  has = λ field.
-    ( λ t. let w = (known.has field).0 t in (w.0, omega (arith, w.1), w.2, w.3)
-    , λ w. (known.has field).1 (w.0, elim (cases_lt w.0 j) [ inl lt ↦ lt | inr ge ↦ absurd (free (subst (λ x. used_mark b x ≡ 1) (at_end w.0 j w.1 ge) w.2)) ], w.2, w.3)
-    );
+  has = λ field. (
+    λ t. let w = (known.has field).0 t in (w.0, omega (arith, w.1), w.2, w.3),
+    λ w. (known.has field).1 (w.0, elim (cases_lt w.0 j) [ inl lt ↦ lt | inr ge ↦ absurd (free (subst (λ x. used_mark b x ≡ 1) (at_end w.0 j w.1 ge) w.2)) ], w.2, w.3),
+  );
   apart = λ i k l m u v. known.apart i k l (elim (cases_lt k j) [ inl lt ↦ lt | inr ge ↦ absurd (free (subst (λ x. used_mark b x ≡ 1) (at_end k j m ge) v)) ]) u v;
 }
 
 pub knows_added : {S : Type 0} (b : List ℕ) (seen after : HashSet (Bor (List ℕ)) S) (j : ℕ) → KnowsBefore b seen j → used_mark b j ≡ 1 → ¬ HasName seen (name_field b j) → ((field : List ℕ) → HasName after field ↔ (HasName seen field ⊎ (field ≡ name_field b j))) → KnowsBefore b after (j + 1)
 knows_added b seen after j known used fresh names = record {
-  has = λ field.
-    ( λ t. elim ((names field).0 t) [ inl t ↦ let w = (known.has field).0 t in (w.0, omega (arith, w.1), w.2, w.3) | inr e ↦ (j, omega arith, used, sym e) ]
-    , λ w. (names field).1 (elim (cases_lt w.0 j) [ inl lt ↦ inl ((known.has field).1 (w.0, lt, w.2, w.3)) | inr ge ↦ inr (sym w.3 ∙ ap (name_field b) (at_end w.0 j w.1 ge)) ])
-    );
+  has = λ field. (
+    λ t. elim ((names field).0 t) [ inl t ↦ let w = (known.has field).0 t in (w.0, omega (arith, w.1), w.2, w.3) | inr e ↦ (j, omega arith, used, sym e) ],
+    λ w. (names field).1 (elim (cases_lt w.0 j) [ inl lt ↦ inl ((known.has field).1 (w.0, lt, w.2, w.3)) | inr ge ↦ inr (sym w.3 ∙ ap (name_field b) (at_end w.0 j w.1 ge)) ]),
+  );
   apart = λ i k l m u v e. elim (cases_lt k j) [ inl lt ↦ known.apart i k l lt u v e | inr ge ↦ fresh ((known.has (name_field b j)).1 (i, omega arith, u, e ∙ ap (name_field b) (at_end k j m ge))) ];
 }

@@ -17,40 +17,40 @@ earlier_still : (i d j e : ℕ) → IsEarlier i d j e → IsEarlier i d j (e + 1
 earlier_still i d j e h = elim h [ inl l ↦ inl l | inr w ↦ inr (w.0, omega (arith, w.1)) ]
 
 before_more : (b : List ℕ) (j e x : ℕ) → IsExtent b j e → IsTakenBefore b j (e + 1) x ↔ (IsTakenBefore b j e x ⊎ IsInExtent (extent_at b j e) x)
-before_more b j e x here =
-    ( λ w. elim (earlier_more w.0 w.1 j e w.3) [
-        inl l ↦ inl (w.0, w.1, w.2, l, w.4)
-        | inr s ↦ inr (subst (λ i. IsInExtent (extent_at b i e) x) s.0 (subst (λ d. IsInExtent (extent_at b w.0 d) x) s.1 w.4))
-      ]
-    , λ h. elim h [ inl w ↦ (w.0, w.1, w.2, earlier_still w.0 w.1 j e w.3, w.4) | inr i ↦ (j, e, here, inr (refl, omega arith), i) ]
-    )
+before_more b j e x here = (
+  λ w. elim (earlier_more w.0 w.1 j e w.3) [
+    | inl l ↦ inl (w.0, w.1, w.2, l, w.4)
+    | inr s ↦ inr (subst (λ i. IsInExtent (extent_at b i e) x) s.0 (subst (λ d. IsInExtent (extent_at b w.0 d) x) s.1 w.4))
+  ],
+  λ h. elim h [ inl w ↦ (w.0, w.1, w.2, earlier_still w.0 w.1 j e w.3, w.4) | inr i ↦ (j, e, here, inr (refl, omega arith), i) ],
+)
 
 -- the map after extent e of record j is marked too
 pub marks_more : (b : List ℕ) (taken after : List Bool) (j e : ℕ) → MarksBefore b taken j e → IsExtent b j e → length after ≡ length taken → ((x : ℕ) → x < length taken → IsTakenIn after x ↔ (IsTakenIn taken x ⊎ IsInExtent (extent_at b j e) x)) → MarksBefore b after j (e + 1)
 marks_more b taken after j e before here long step = record {
   long = long ∙ before.long;
   marks = λ x l.
-    let more = before_more b j e x here in
-    let marked = step x (omega (arith, before.long, l)) in
-    ( λ t. more.1 (elim (marked.0 t) [ inl u ↦ inl ((before.marks x l).0 u) | inr i ↦ inr i ])
-    , λ w. marked.1 (elim (more.0 w) [ inl u ↦ inl ((before.marks x l).1 u) | inr i ↦ inr i ])
-    );
+      let more = before_more b j e x here in
+      let marked = step x (omega (arith, before.long, l)) in (
+        λ t. more.1 (elim (marked.0 t) [ inl u ↦ inl ((before.marks x l).0 u) | inr i ↦ inr i ]),
+        λ w. marked.1 (elim (more.0 w) [ inl u ↦ inl ((before.marks x l).1 u) | inr i ↦ inr i ]),
+      );
 }
 
 earlier_within : (b : List ℕ) (j n : ℕ) → ((d : ℕ) → IsExtent b j d → d < n) → (i d : ℕ) → IsExtent b i d → IsEarlier i d (j + 1) 0 → IsEarlier i d j n
 earlier_within b j n all i d x h = elim h [
-    inl l ↦ elim (cases_lt i j) [ inl m ↦ inl m | inr m ↦ let e = same i j l m in inr (e, all d (subst (λ k. IsExtent b k d) e x)) ]
-    | inr w ↦ absurd (omega (arith, w.1))
-  ]
+  | inl l ↦ elim (cases_lt i j) [ inl m ↦ inl m | inr m ↦ let e = same i j l m in inr (e, all d (subst (λ k. IsExtent b k d) e x)) ]
+  | inr w ↦ absurd (omega (arith, w.1))
+]
 
 -- the map before the next record, where all extents of this one are below n
 pub marks_end : (b : List ℕ) (taken : List Bool) (j n : ℕ) → MarksBefore b taken j n → ((d : ℕ) → IsExtent b j d → d < n) → MarksBefore b taken (j + 1) 0
 marks_end b taken j n before all = record {
   long = before.long;
-  marks = λ x l.
-    ( λ t. let w = (before.marks x l).0 t in (w.0, w.1, w.2, inl (elim w.3 [ inl m ↦ omega arith | inr s ↦ omega (arith, s.0) ]), w.4)
-    , λ w. (before.marks x l).1 (w.0, w.1, w.2, earlier_within b j n all w.0 w.1 w.2 w.3, w.4)
-    );
+  marks = λ x l. (
+    λ t. let w = (before.marks x l).0 t in (w.0, w.1, w.2, inl (elim w.3 [ inl m ↦ omega arith | inr s ↦ omega (arith, s.0) ]), w.4),
+    λ w. (before.marks x l).1 (w.0, w.1, w.2, earlier_within b j n all w.0 w.1 w.2 w.3, w.4),
+  );
 }
 
 -- an extent none of whose blocks is marked shares none with an earlier one
@@ -98,13 +98,13 @@ pub least_share : (b : List ℕ) (taken : List Bool) (j e : ℕ) → WalkedTo b 
 least_share b taken j e walked used counts first = record {
   breaks = (first.shares.0, first.shares.1, j, e, first.shares.2, (used, first.within), first.shares.3, first.shares.4, refl);
   least = λ q l (i, d, k, f, x, y, earlier, share, place).
-    let few : extent_count b k ≤ 24 = counts k y.0 in
-    let many : extent_count b j ≤ 24 = counts j used in
-    elim (cases_lt k j) [
-      inl m ↦ walked.none k f m y (i, d, x, earlier, share)
-      | inr m ↦
-        let s : k ≡ j = omega (arith, y.1, first.within) in
-        let P : ℕ → Type 0 = λ n. SharesEarlier b n f in
-        first.before f (omega (arith, first.within)) (subst P s (i, d, x, earlier, share))
-    ];
+      let few : extent_count b k ≤ 24 = counts k y.0 in
+      let many : extent_count b j ≤ 24 = counts j used in
+      elim (cases_lt k j) [
+        | inl m ↦ walked.none k f m y (i, d, x, earlier, share)
+        | inr m ↦
+            let s : k ≡ j = omega (arith, y.1, first.within) in
+            let P : ℕ → Type 0 = λ n. SharesEarlier b n f in
+            first.before f (omega (arith, first.within)) (subst P s (i, d, x, earlier, share))
+      ];
 }

@@ -37,10 +37,10 @@ last_of b j n count some =
     record {
       front = blocks_before b j n ++ range_with_len s (l - 1);
       blocks =
-        ap (blocks_before b j) count ∙ blocks_before-more b j n
-        ∙ ap (λ k. blocks_before b j n ++ range_with_len s k) more
-        ∙ ap (λ xs. blocks_before b j n ++ xs) (range_with_len-more s (l - 1))
-        ∙ sym (append_assoc (blocks_before b j n) (range_with_len s (l - 1)) ((s + (l - 1)) ∷ []));
+          ap (blocks_before b j) count ∙ blocks_before-more b j n
+          ∙ ap (λ k. blocks_before b j n ++ range_with_len s k) more
+          ∙ ap (λ xs. blocks_before b j n ++ xs) (range_with_len-more s (l - 1))
+          ∙ sym (append_assoc (blocks_before b j n) (range_with_len s (l - 1)) ((s + (l - 1)) ∷ []));
     }
 
 -- the place is in the tail of a file whose last block ends at this place
@@ -85,26 +85,42 @@ tails_zero-more b j here h i l used =
 
 pub least_in_tails-more : (b : List ℕ) (j found : ℕ) → (IsUsed b j → IsTailZero b j) → IsLeastInTails b j found → IsLeastInTails b (j + 1) found
 least_in_tails-more b j found here h = record {
-  record_of = h.record_of; within = omega (arith, h.within); used = h.used; in_tail = h.in_tail; not_zero = h.not_zero;
+  record_of = h.record_of;
+  within = omega (arith, h.within);
+  used = h.used;
+  in_tail = h.in_tail;
+  not_zero = h.not_zero;
   below = λ i q l used m t. elim (cases_lt i j) [ inl k ↦ h.below i q k used m t | inr k ↦ let P : ℕ → Type 0 = λ n. IsUsed b n → IsTailZero b n in subst P (sym (same i j l k)) here used q t ];
 }
 
 -- one record more whose tail has a byte that is not zero
 pub least_in_tails-first : (b : List ℕ) (j place : ℕ) → IsUsed b j → IsFirstInTail b j place → AreTailsZero b j → IsLeastInTails b (j + 1) place
 least_in_tails-first b j place used first h = record {
-  record_of = j; within = omega arith; used = used; in_tail = first.in_tail; not_zero = first.not_zero;
+  record_of = j;
+  within = omega arith;
+  used = used;
+  in_tail = first.in_tail;
+  not_zero = first.not_zero;
   below = λ i q l u m t. elim (cases_lt i j) [ inl k ↦ h i k u q t | inr k ↦ first.before q m (let P : ℕ → Type 0 = λ n. IsInTail b n q in subst P (same i j l k) t) ];
 }
 
 pub least_in_tails-least : (b : List ℕ) (j other place : ℕ) → IsUsed b j → IsFirstInTail b j place → IsLeastInTails b j other → IsLeastInTails b (j + 1) (min other place)
 least_in_tails-least b j other place used first h =
     elim (cases_lt other place) [
-      inl lt ↦ let e : min other place ≡ other = omega arith in rw e (record {
-        record_of = h.record_of; within = omega (arith, h.within); used = h.used; in_tail = h.in_tail; not_zero = h.not_zero;
+      | inl lt ↦ let e : min other place ≡ other = omega arith in rw e (record {
+        record_of = h.record_of;
+        within = omega (arith, h.within);
+        used = h.used;
+        in_tail = h.in_tail;
+        not_zero = h.not_zero;
         below = λ i q l u m t. elim (cases_lt i j) [ inl k ↦ h.below i q k u m t | inr k ↦ first.before q (omega arith) (let P : ℕ → Type 0 = λ n. IsInTail b n q in subst P (same i j l k) t) ];
       })
       | inr ge ↦ let e : min other place ≡ place = omega arith in rw e (record {
-        record_of = j; within = omega arith; used = used; in_tail = first.in_tail; not_zero = first.not_zero;
+        record_of = j;
+        within = omega arith;
+        used = used;
+        in_tail = first.in_tail;
+        not_zero = first.not_zero;
         below = λ i q l u m t. elim (cases_lt i j) [ inl k ↦ h.below i q k u (omega arith) t | inr k ↦ first.before q m (let P : ℕ → Type 0 = λ n. IsInTail b n q in subst P (same i j l k) t) ];
       })
     ]

@@ -3,7 +3,7 @@
 
 mod error;
 mod layout;
-mod parse;
+mod reader;
 mod refusals;
 
 pub use error::ImageError;
@@ -12,4 +12,5 @@ pub use layout::{
     LEAST_LENGTH, LENGTH_PLACE, MAGIC, MOST_EXTENTS, MOST_INODES, MOST_LENGTH, NAME_FIELD,
     OWNER_FIELD, RECORD_BYTES, RECORDS_PLACE, SIZE_FIELD, VERSION, VERSION_PLACE,
 };
+pub use reader::parse;
 pub use refusals::{one_refusal, refused_is_not_accepted};

@@ -1,5 +1,0 @@
-use Rattle.bd_image.proofs.Seen.{KnowsBefore}
-use Rattle.bd_image.proofs.parse.seen.check_names_fresh.Given as goal
-
-abbrev pub invariant-loop-j : goal.invariant-loop-j
-invariant-loop-j l = KnowsBefore l.bytes l.seen l.j

@@ -1,6 +1,0 @@
-use Rattle.std.proofs.Common.{◌≡◌, ◌<◌, ◌≤◌, ℕ, get_or}
-use Rattle.bd_image.specs.Checks.{AreZero}
-use Rattle.bd_image.proofs.parse.zeros.first_nonzero.Given as goal
-
-abbrev pub invariant-loop-place : goal.invariant-loop-place
-invariant-loop-place l = AreZero l.bytes l.low l.place
