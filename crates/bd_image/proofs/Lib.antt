@@ -1,13 +1,20 @@
--- Lemmas on numbers as bytes, on extents, and on the parts of an image.
+-- Lemmas on numbers as bytes, on extents, on the parts of an image, and on the checks of its rules.
 pub mod Bitmap
+pub mod Blocks
 pub mod Extents
 pub mod Header
 pub mod Limits
+pub mod Marks
+pub mod NameFields
 pub mod Names
 pub mod Numbers
 pub mod Owned
 pub mod Parts
 pub mod Records
+pub mod RuleOrder
+pub mod Seen
 pub mod SetBits
+pub mod Sharing
+pub mod Tails
 pub mod Taken
 pub mod Whole

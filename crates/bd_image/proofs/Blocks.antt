@@ -1,0 +1,34 @@
+-- The blocks of extents, one extent after the other.
+use Rattle.std.proofs.Common.{◌≡◌, ℕ, ◌+◌, List, [], ◌∷◌, ◌++◌, length, map, refl, sym, ap, ◌∙◌, ◌-◌, ◌≤◌, map-id, append_assoc, arith, rules}
+use Rattle.std.specs.List.{range_with_len}
+use Rattle.std.proofs.lemmas.Grind.{common_steps}
+use Rattle.std.proofs.lemmas.List.FromFn.{map-range_with_len_more, length-range_with_len}
+use Rattle.bd_base.specs.declared.volume.Extent.{Extent}
+use Rattle.bd_base.specs.Extents.{blocks_of}
+use Rattle.bd_image.specs.Layout.{extent_at}
+use Rattle.bd_image.specs.Checks.{blocks_before}
+
+pub blocks_of-append : (xs ys : List Extent) → blocks_of (xs ++ ys) ≡ blocks_of xs ++ blocks_of ys
+blocks_of-append [] ys = refl
+blocks_of-append (x ∷ xs) ys = ap (λ l. range_with_len x.start x.length ++ l) (blocks_of-append xs ys) ∙ sym (append_assoc (range_with_len x.start x.length) (blocks_of xs) (blocks_of ys))
+
+-- one more extent
+pub blocks_before-more : (b : List ℕ) (j n : ℕ) → blocks_before b j (n + 1) ≡ blocks_before b j n ++ range_with_len (extent_at b j n).start (extent_at b j n).length
+blocks_before-more b j n =
+    ap blocks_of (map-range_with_len_more (extent_at b j) 0 n n (grind arith)) ∙ blocks_of-append (map (extent_at b j) (range_with_len 0 n)) (extent_at b j n ∷ []) ∙ ap (λ l. blocks_before b j n ++ l) (grind (arith, common_steps))
+
+pub length_blocks_before-more : (b : List ℕ) (j n : ℕ) → length (blocks_before b j (n + 1)) ≡ length (blocks_before b j n) + (extent_at b j n).length
+length_blocks_before-more b j n =
+    ap length (blocks_before-more b j n) ∙ grind (arith, common_steps, length-range_with_len)
+
+-- a range grows at its end
+pub range_with_len-more : (a n : ℕ) → range_with_len a (n + 1) ≡ range_with_len a n ++ (a + n) ∷ []
+range_with_len-more a n = sym (map-id (range_with_len a (n + 1))) ∙ map-range_with_len_more (λ x. x) a n (a + n) refl ∙ ap (λ l. l ++ (a + n) ∷ []) (map-id (range_with_len a n))
+
+-- one more block of a range is appended
+pub range_with_len-pushed : (before now after : List ℕ) (start block item : ℕ) → start ≤ block → now ≡ before ++ range_with_len start (block - start) → after ≡ now ++ item ∷ [] → item ≡ block → after ≡ before ++ range_with_len start (block + 1 - start)
+range_with_len-pushed before now after start block item l e f g =
+    let one : block + 1 - start ≡ block - start + 1 = omega arith in
+    let last : start + (block - start) ≡ block = omega arith in
+    f ∙ ap (λ x. now ++ x ∷ []) g ∙ ap (λ xs. xs ++ block ∷ []) e ∙ append_assoc before (range_with_len start (block - start)) (block ∷ [])
+    ∙ ap (λ xs. before ++ xs) (ap (λ x. range_with_len start (block - start) ++ x ∷ []) (sym last) ∙ sym (range_with_len-more start (block - start)) ∙ ap (range_with_len start) (sym one))

@@ -1,0 +1,10 @@
+use Rattle.std.proofs.Common.{◌≡◌, ◌<◌, ◌↔◌, ◌⊎◌, ℕ, length, IsTrue}
+use Rattle.std.specs.List.{Contains}
+use Rattle.bd_image.specs.Checks.{blocks_before}
+use Rattle.bd_image.specs.Layout.{is_marked}
+use Rattle.bd_image.specs.Rules.{IsTaken}
+use Rattle.bd_image.specs.Sharing.{IsTakenIn, MarksFiles}
+use Rattle.bd_image.proofs.reader.bitmap.first_wrong.Given as goal
+
+abbrev pub invariant-loop-x : goal.invariant-loop-x
+invariant-loop-x l = (k : ℕ) → k < l.x → IsTrue (is_marked l.bytes k) ↔ IsTaken l.bytes k

@@ -1,0 +1,7 @@
+use Rattle.std.proofs.Common.{◌≡◌, ◌+◌, ◌<◌, ◌≤◌, ◌⊎◌, ◌↔◌, ℕ, length}
+use Rattle.bd_image.specs.Layout.{extent_at, extent_count, used_mark}
+use Rattle.bd_image.specs.Sharing.{IsTakenIn, MarksBefore, SharesNone}
+use Rattle.bd_image.proofs.reader.sharing.first_shared.Given as goal
+
+abbrev pub invariant-loop-e : goal.invariant-loop-e
+invariant-loop-e l = MarksBefore l.bytes l.taken l.j l.e × SharesNone l.bytes l.j l.e

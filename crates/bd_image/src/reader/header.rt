@@ -1,0 +1,81 @@
+//! The rules of the first block.
+ghost use Rattle.std.specs.Prelude.{◌≡◌, ℕ, ◌+◌, ◌*◌, ◌<◌, ◌≤◌, length, MatchOption};
+ghost use Rattle.bd_image.specs.Layout.{byte_at};
+ghost use Rattle.bd_image.specs.Rules.{BlockCount, HeaderRest, InodeCount, IsLeastBreak, Length, Magic, Obeys, Version};
+
+use crate::layout::{
+    BITMAP_PLACE, HEADER_BYTES, INODES_PLACE, LEAST_INODES, LEAST_LENGTH, LENGTH_PLACE, MAGIC,
+    MOST_INODES, MOST_LENGTH, VERSION, VERSION_PLACE,
+};
+use crate::reader::fields::{block_count, inode_count, version};
+use crate::reader::zeros::first_nonzero;
+use bd_base::BLOCK_SIZE;
+
+/// The length is that of whole blocks, and neither too small nor too large.
+pub(crate) fn check_length(bytes: &[u8]) -> Option<u64>
+    ensures { MatchOption result (Obeys bytes.now Length) (λ place. IsLeastBreak bytes.now Length place) }
+{
+    let length = bytes.len() as u64;
+    if length % BLOCK_SIZE == 0 && LEAST_LENGTH <= length && length <= MOST_LENGTH {
+        None
+    } else {
+        Some(length.min(MOST_LENGTH + 1))
+    }
+}
+
+/// The image begins as images do.
+pub(crate) fn check_magic(bytes: &[u8]) -> Option<u64>
+    requires { Obeys bytes.now Length }
+    ensures { MatchOption result (Obeys bytes.now Magic) (λ place. IsLeastBreak bytes.now Magic place) }
+{
+    if bytes.starts_with(&MAGIC) {
+        None
+    } else {
+        Some(0)
+    }
+}
+
+/// The version is the one that is read here.
+pub(crate) fn check_version(bytes: &[u8]) -> Option<u64>
+    requires { Obeys bytes.now Length }
+    ensures { MatchOption result (Obeys bytes.now Version) (λ place. IsLeastBreak bytes.now Version place) }
+{
+    if version(bytes) == VERSION {
+        None
+    } else {
+        Some(VERSION_PLACE)
+    }
+}
+
+/// The number of blocks is that of the image.
+pub(crate) fn check_block_count(bytes: &[u8]) -> Option<u64>
+    requires { Obeys bytes.now Length }
+    ensures { MatchOption result (Obeys bytes.now BlockCount) (λ place. IsLeastBreak bytes.now BlockCount place) }
+{
+    if u64::from(block_count(bytes)) * BLOCK_SIZE == bytes.len() as u64 {
+        None
+    } else {
+        Some(LENGTH_PLACE)
+    }
+}
+
+/// The records fill whole blocks, and are neither too few nor too many.
+pub(crate) fn check_inode_count(bytes: &[u8]) -> Option<u64>
+    requires { Obeys bytes.now Length }
+    ensures { MatchOption result (Obeys bytes.now InodeCount) (λ place. IsLeastBreak bytes.now InodeCount place) }
+{
+    let count = inode_count(bytes);
+    if count % LEAST_INODES == 0 && LEAST_INODES <= count && count <= MOST_INODES {
+        None
+    } else {
+        Some(INODES_PLACE)
+    }
+}
+
+/// The rest of the first block is zero.
+pub(crate) fn check_header_rest(bytes: &[u8]) -> Option<u64>
+    requires { Obeys bytes.now Length }
+    ensures { MatchOption result (Obeys bytes.now HeaderRest) (λ place. IsLeastBreak bytes.now HeaderRest place) }
+{
+    first_nonzero(bytes, HEADER_BYTES, BITMAP_PLACE)
+}
