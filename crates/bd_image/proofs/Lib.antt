@@ -1,4 +1,4 @@
--- Lemmas on numbers as bytes, on extents, on the parts of an image, and on the checks of its rules.
+-- Lemmas on numbers as bytes, on extents, on the checks of the rules, and on the parts of an image.
 pub mod Bitmap
 pub mod Blocks
 pub mod Extents

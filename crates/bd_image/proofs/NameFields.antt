@@ -1,9 +1,9 @@
 -- The fields of names: a name, and zeros up to 32 bytes.
-use Rattle.std.proofs.Common.{◌≡◌, ◌≢◌, ℕ, ◌+◌, ◌-◌, ◌<◌, ◌≤◌, List, [], ◌∷◌, ◌++◌, length, take, drop, replicate, get_or, slice_index, All, refl, sym, ap, ◌∙◌, subst, arith, rules, inl, inr, ◌⊎◌, le_antisymm}
+use Rattle.std.proofs.Common.{◌≡◌, ℕ, ◌<◌, ◌≤◌, List, length, take, get_or, subst, arith, inl, inr, le_antisymm}
 use Rattle.std.proofs.lemmas.Bool.{cases_lt}
 use Rattle.std.proofs.lemmas.Grind.{common_steps, elements}
 use Rattle.std.proofs.lemmas.List.Elements.{All-get_or, All-from_get_or}
-use Rattle.bd_image.specs.Rules.{IsName, IsNameByte, IsNameField}
+use Rattle.bd_image.specs.Rules.{IsNameByte, IsNameField}
 use Rattle.bd_image.specs.Checks.{ZeroesFrom}
 
 pub IsNameField-from_parts : (field : List ℕ) (n : ℕ) → length field ≡ 32 → 0 < n → n ≤ 31 → ((k : ℕ) → k < n → IsNameByte (get_or field k 0)) → ZeroesFrom field n → IsNameField field

@@ -1,5 +1,5 @@
 -- The rules one after the other: what a refusal tells is determined, and each broken rule is told.
-use Rattle.std.proofs.Common.{◌≡◌, ◌≢◌, ℕ, zero, suc, ◌+◌, ◌<◌, ◌≤◌, List, [], ◌∷◌, get_or, refl, sym, ap, ◌∙◌, subst, inl, inr, arith, le_antisymm}
+use Rattle.std.proofs.Common.{◌≡◌, ℕ, ◌+◌, ◌<◌, ◌≤◌, List, [], ◌∷◌, get_or, refl, sym, ap, ◌∙◌, subst, inl, inr, arith, le_antisymm}
 use Rattle.std.proofs.lemmas.Bool.{cases_lt}
 use Rattle.bd_image.specs.Refusals.{ObeysBelow}
 use Rattle.bd_image.specs.Rules.{Accepted, BreaksAt, Broken, HasRecords, IsLeastBreak, Obeys, Rule, rule_number, Bitmap, BlockCount, ExtentCount, ExtentJoins, ExtentRange, ExtentShares, FreeRecord, HeaderRest, InodeCount, Length, Magic, NameForm, NameFresh, Perms, RecordRest, Size, TailZero, UsedMark, Version}

@@ -1,5 +1,5 @@
 -- Sets of names after one more.
-use Rattle.std.proofs.Common.{◌≡◌, ◌≢◌, ℕ, ◌+◌, ◌<◌, ◌≤◌, ◌↔◌, ◌⊎◌, Bool, true, false, cond, List, IsTrue, Bor, refl, sym, ap, ◌∙◌, subst, inl, inr, ⊎_elim, arith, rules, Decides}
+use Rattle.std.proofs.Common.{◌≡◌, ◌≢◌, ℕ, ◌+◌, ◌<◌, ◌≤◌, ◌↔◌, ◌⊎◌, Bool, true, false, cond, List, IsTrue, Bor, refl, sym, ap, ◌∙◌, subst, inl, inr, arith, Decides}
 use Rattle.std.specs.HashSet.{HashSet, Updates, contains}
 use Rattle.std.specs.Str.{bytes_eq}
 use Rattle.std.proofs.lemmas.Slice.Eq.{bytes_eq-Decides}

@@ -1,5 +1,5 @@
 -- Maps of taken blocks: what one more extent adds, and when an extent meets an earlier one.
-use Rattle.std.proofs.Common.{◌≡◌, ℕ, ◌+◌, ◌<◌, ◌≤◌, ◌↔◌, ◌⊎◌, Bool, List, length, refl, sym, ap, ◌∙◌, subst, inl, inr, arith}
+use Rattle.std.proofs.Common.{◌≡◌, ℕ, ◌+◌, ◌<◌, ◌≤◌, ◌↔◌, ◌⊎◌, Bool, List, length, refl, sym, ◌∙◌, subst, inl, inr, arith}
 use Rattle.std.proofs.lemmas.Bool.{cases_lt}
 use Rattle.bd_base.specs.declared.volume.Extent.{Extent}
 use Rattle.bd_image.specs.Layout.{IsUsed, block_count, extent_at, extent_count, extent_place, inode_count, used_mark}

@@ -1,10 +1,10 @@
 -- Where the tail of a file stands: in the last block of its last extent.
-use Rattle.std.proofs.Common.{◌≡◌, ◌≢◌, ℕ, ◌+◌, ◌-◌, ◌*◌, ◌<◌, ◌≤◌, ◌↔◌, List, [], ◌∷◌, ◌++◌, length, get_or, refl, sym, ap, ◌∙◌, append_assoc, arith, inl, inr, subst, min, Option, None, Some, MatchOption}
+use Rattle.std.proofs.Common.{◌≡◌, ℕ, ◌+◌, ◌-◌, ◌*◌, ◌<◌, ◌≤◌, List, [], ◌∷◌, ◌++◌, length, get_or, sym, ap, ◌∙◌, append_assoc, arith, inl, inr, subst, min, Option, None, Some, MatchOption}
 use Rattle.std.specs.List.{range_with_len}
 use Rattle.std.proofs.lemmas.Grind.{common_steps, elements}
 use Rattle.std.proofs.lemmas.Bool.{cases_lt}
 use Rattle.bd_base.specs.Files.{blocks_for}
-use Rattle.bd_image.specs.Layout.{IsUsed, blocks_at, byte_at, extent_at, extent_count, inode_count, size_at}
+use Rattle.bd_image.specs.Layout.{IsUsed, blocks_at, extent_at, extent_count, inode_count, size_at}
 use Rattle.bd_image.specs.Checks.{AreZero, IsFirstNonzero, blocks_before}
 use Rattle.bd_image.specs.Rules.{IsInTail, IsLeastBreak, Obeys, TailZero}
 use Rattle.bd_image.specs.Tails.{AreTailsZero, IsFirstInTail, IsLeastInTails, IsTailZero}

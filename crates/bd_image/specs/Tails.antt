@@ -1,5 +1,5 @@
 -- The bytes of last blocks past the sizes of files.
-use Rattle.std.specs.Prelude.{◌≡◌, ◌≢◌, ℕ, ◌<◌, ◌≤◌, List, Option}
+use Rattle.std.specs.Prelude.{◌≡◌, ◌≢◌, ℕ, ◌<◌, List}
 use Rattle.bd_image.specs.Layout.{IsUsed, byte_at}
 use Rattle.bd_image.specs.Rules.{IsInTail}
 

@@ -19,3 +19,6 @@ pub use layout::{
 pub use reader::parse;
 pub use refusals::{one_refusal, refused_is_not_accepted};
 pub use writer::render;
+
+#[cfg(test)]
+mod tests;

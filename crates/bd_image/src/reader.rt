@@ -1,10 +1,11 @@
 //! Reading an image into a volume: the checks of the rules in their order, and then the files.
 ghost use Rattle.std.specs.Prelude.{◌≡◌, ℕ, ◌≤◌, ◌++◌, drop, length, map, replicate, IfErr, IfOk, OnOk};
 ghost use Rattle.std.specs.List.{range_with_len};
+ghost use Rattle.bd_base.specs.Bytes.{AreBytes};
 ghost use Rattle.bd_image.specs.Layout.{inode_count};
 ghost use Rattle.bd_image.specs.Refusals.{IsRefusal};
 ghost use Rattle.bd_image.specs.Rules.{Accepted};
-ghost use Rattle.bd_image.specs.Volumes.{inode_at, volume_of};
+ghost use Rattle.bd_image.specs.Volumes.{AcceptedVolume, inode_at, volume_of};
 
 mod bitmap;
 mod clearing;
@@ -31,6 +32,7 @@ use std::alloc::Global;
 /// The files of an image that meets all rules.
 fn read_checked(alloc: Global, bytes: &[u8]) -> Result<InodeList, ImageError>
     ensures accepted { OnOk result (Accepted bytes.now) }
+    ensures bytes { OnOk result (AreBytes bytes.now) }
     ensures files { IfOk result (λ files. files ≡ map (inode_at bytes.now) (range_with_len 0 (inode_count bytes.now))) }
     ensures refused { IfErr result (IsRefusal bytes.now) }
 {
@@ -47,6 +49,7 @@ fn read_checked(alloc: Global, bytes: &[u8]) -> Result<InodeList, ImageError>
 pub fn parse(alloc: Global, bytes: Bytes) -> Result<Volume, ImageError>
     ensures accepted { OnOk result (Accepted bytes) }
     ensures volume { IfOk result (λ volume. volume ≡ volume_of bytes) }
+    ensures accepted_volume { IfOk result (λ volume. AcceptedVolume volume) }
     ensures refused { IfErr result (IsRefusal bytes) }
 {
     let inodes = read_checked(alloc, bytes.as_slice())?;

@@ -45,3 +45,6 @@ pub fn render(alloc: Global, volume: &Volume) -> Result<Bytes, OutOfMemory>
 {
     image_of(alloc, volume)
 }
+
+#[cfg(test)]
+mod tests;

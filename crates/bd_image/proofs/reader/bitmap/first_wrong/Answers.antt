@@ -1,4 +1,4 @@
-use Rattle.std.proofs.Common.{◌≡◌, ◌↔◌, ◌<◌, ℕ, IsTrue, false, get_or, below_more, sym, ◌∙◌, arith}
+use Rattle.std.proofs.Common.{◌≡◌, ◌↔◌, IsTrue, false, get_or, below_more, sym, ◌∙◌, arith}
 use Rattle.bd_image.specs.Layout.{is_marked}
 use Rattle.bd_image.specs.Rules.{IsTaken}
 use Rattle.bd_image.proofs.Marks.{bit_right, bits_differ, bits_same, least_bit}

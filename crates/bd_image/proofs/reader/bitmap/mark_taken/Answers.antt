@@ -1,7 +1,7 @@
-use Rattle.std.proofs.Common.{◌≡◌, ◌+◌, ℕ, List, Bool, sym, ◌∙◌, subst, arith}
+use Rattle.std.proofs.Common.{refl, ◌+◌, List, Bool, sym, ◌∙◌, subst, arith}
 use Rattle.std.proofs.lemmas.Bool.{false≢true}
 use Rattle.bd_image.specs.Sharing.{MarksFiles}
-use Rattle.bd_image.proofs.Marks.{all_marked, file_marked, free_marked}
+use Rattle.bd_image.proofs.Marks.{all_marked, file_marked, free_marked, metadata_marked}
 use Rattle.bd_image.proofs.reader.bitmap.mark_taken.Goals as goal
 use Rattle.bd_image.proofs.reader.bitmap.mark_taken.Goals.{then-is_used, else-is_used}
 
@@ -21,3 +21,8 @@ loop-j-preserved c =
 
 pub returns : goal.returns
 returns c = all_marked c.args.bytes.now c.loop-j.taken c.loop-j.j c.loop-j.invariant (omega arith)
+
+pub loop-j-init : goal.loop-j-init
+loop-j-init c =
+    metadata_marked c.args.bytes.now c.args.taken.now c.take_blocks.new.taken (record { start = 0; length = c.data_start.result })
+    c.requires.long c.requires.clear refl c.data_start.ensures c.take_blocks.auto.taken c.take_blocks.ensures

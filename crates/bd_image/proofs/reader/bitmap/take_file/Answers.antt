@@ -1,4 +1,4 @@
-use Rattle.std.proofs.Common.{◌≡◌, ◌↔◌, ◌⊎◌, ◌<◌, ℕ, ap, subst, arith}
+use Rattle.std.proofs.Common.{◌≡◌, ◌↔◌, ◌⊎◌, ℕ, subst, arith}
 use Rattle.std.specs.List.{Contains}
 use Rattle.bd_base.specs.declared.volume.Extent.{Extent}
 use Rattle.bd_image.specs.Checks.{blocks_before}

@@ -1,9 +1,7 @@
-use Rattle.std.proofs.Common.{◌≡◌, ◌<◌, ◌↔◌, ◌⊎◌, ℕ, length, IsTrue}
+use Rattle.std.proofs.Common.{◌<◌, ◌↔◌, ◌⊎◌, ℕ}
 use Rattle.std.specs.List.{Contains}
 use Rattle.bd_image.specs.Checks.{blocks_before}
-use Rattle.bd_image.specs.Layout.{is_marked}
-use Rattle.bd_image.specs.Rules.{IsTaken}
-use Rattle.bd_image.specs.Sharing.{IsTakenIn, MarksFiles}
+use Rattle.bd_image.specs.Sharing.{IsTakenIn}
 use Rattle.bd_image.proofs.reader.bitmap.take_file.Given as goal
 
 abbrev pub invariant-loop-e : goal.invariant-loop-e

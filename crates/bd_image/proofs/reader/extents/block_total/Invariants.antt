@@ -1,9 +1,5 @@
-use Rattle.std.proofs.Common.{◌≡◌, ◌+◌, ◌*◌, ◌^◌, ◌<◌, ◌≤◌, ℕ, length, map}
-use Rattle.std.specs.List.{range_with_len}
-use Rattle.bd_base.specs.Extents.{blocks_of}
-use Rattle.bd_image.specs.Layout.{block_count, blocks_at, extent_at, extent_count, inode_count, size_at, used_mark, IsUsed}
-use Rattle.bd_image.specs.Checks.{HasNoJoin, IsInside, blocks_before}
-use Rattle.bd_image.specs.Rules.{IsInDataArea}
+use Rattle.std.proofs.Common.{◌≡◌, ◌*◌, ◌^◌, ◌≤◌, length}
+use Rattle.bd_image.specs.Checks.{blocks_before}
 use Rattle.bd_image.proofs.reader.extents.block_total.Given as goal
 
 abbrev pub invariant-loop-e : goal.invariant-loop-e

@@ -1,11 +1,7 @@
-use Rattle.std.proofs.Common.{◌≡◌, ◌+◌, ◌*◌, ◌^◌, ◌<◌, ◌≤◌, ℕ, length, map}
-use Rattle.std.specs.List.{range_with_len}
-use Rattle.bd_base.specs.Extents.{blocks_of}
+use Rattle.std.proofs.Common.{◌≡◌, ◌<◌, ◌≤◌, ℕ, length}
 use Rattle.bd_base.specs.Files.{blocks_for}
 use Rattle.bd_base.specs.declared.limits.TheConstants.{FILE_SIZE}
-use Rattle.bd_image.specs.Layout.{block_count, blocks_at, extent_at, extent_count, inode_count, size_at, used_mark, IsUsed}
-use Rattle.bd_image.specs.Checks.{HasNoJoin}
-use Rattle.bd_image.specs.Rules.{IsInDataArea}
+use Rattle.bd_image.specs.Layout.{blocks_at, size_at, used_mark}
 use Rattle.bd_image.proofs.reader.extents.check_sizes.Given as goal
 
 abbrev pub invariant-loop-j : goal.invariant-loop-j

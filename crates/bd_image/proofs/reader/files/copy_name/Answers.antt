@@ -1,5 +1,4 @@
-use Rattle.std.proofs.Common.{◌≡◌, ◌++◌, ◌∷◌, ◌∙◌, ℕ, rules, tests, nat_eq, not, IfOk, Ok, subst}
-use Rattle.std.specs.List.{take_while}
+use Rattle.std.proofs.Common.{◌∙◌, rules, tests, nat_eq, not}
 use Rattle.std.proofs.lemmas.Iterator.{YieldsList-from_slice, items_from_collect}
 use Rattle.std.proofs.lemmas.Iterator.Consumers.{YieldsList-from_copied}
 use Rattle.std.proofs.lemmas.Iterator.Search.{YieldsList-from_take_while}

@@ -1,4 +1,4 @@
-use Rattle.std.proofs.Common.{◌≡◌, ℕ, ◌≤◌, arith, rules}
+use Rattle.std.proofs.Common.{◌≡◌, arith, rules}
 use Rattle.bd_image.proofs.Blocks.{range_with_len-pushed}
 use Rattle.bd_image.proofs.reader.files.push_blocks.Goals as goal
 

@@ -1,7 +1,5 @@
-use Rattle.std.proofs.Common.{◌≡◌, ◌+◌, ◌-◌, ◌<◌, ◌≤◌, ◌⊎◌, ◌↔◌, ◌++◌, ℕ, length, map}
-use Rattle.std.specs.List.{range_with_len}
+use Rattle.std.proofs.Common.{◌≡◌}
 use Rattle.bd_image.specs.Checks.{blocks_before}
-use Rattle.bd_image.specs.Volumes.{inode_at}
 use Rattle.bd_image.proofs.reader.files.read_blocks.Given as goal
 
 abbrev pub invariant-loop-e : goal.invariant-loop-e

@@ -1,5 +1,4 @@
-use Rattle.std.proofs.Common.{ap, arith, sym, ◌∙◌, ◌++◌, ◌∷◌, [], map}
-use Rattle.std.specs.List.{range_with_len}
+use Rattle.std.proofs.Common.{ap, arith, sym, ◌∙◌, ◌++◌, ◌∷◌, []}
 use Rattle.std.proofs.lemmas.List.FromFn.{map-range_with_len_more}
 use Rattle.bd_image.specs.Volumes.{inode_at}
 use Rattle.bd_image.proofs.reader.files.read_files.Goals as goal

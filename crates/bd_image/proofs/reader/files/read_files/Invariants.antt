@@ -1,6 +1,5 @@
-use Rattle.std.proofs.Common.{◌≡◌, ◌+◌, ◌-◌, ◌<◌, ◌≤◌, ◌⊎◌, ◌↔◌, ◌++◌, ℕ, length, map}
+use Rattle.std.proofs.Common.{◌≡◌, map}
 use Rattle.std.specs.List.{range_with_len}
-use Rattle.bd_image.specs.Checks.{blocks_before}
 use Rattle.bd_image.specs.Volumes.{inode_at}
 use Rattle.bd_image.proofs.reader.files.read_files.Given as goal
 

@@ -1,6 +1,6 @@
-use Rattle.std.proofs.Common.{◌≡◌, ◌+◌, ◌*◌, ◌<◌, ◌≤◌, ℕ, length, slice_index}
+use Rattle.std.proofs.Common.{◌≡◌, ◌<◌, ℕ}
 use Rattle.bd_image.specs.Layout.{name_field, used_mark}
-use Rattle.bd_image.specs.Rules.{IsNameByte, IsNameField}
+use Rattle.bd_image.specs.Rules.{IsNameField}
 use Rattle.bd_image.proofs.reader.names.check_name_forms.Given as goal
 
 abbrev pub invariant-loop-j : goal.invariant-loop-j

@@ -1,6 +1,4 @@
-use Rattle.std.proofs.Common.{◌≡◌, ◌+◌, ◌*◌, ◌<◌, ◌≤◌, ℕ, length, slice_index}
-use Rattle.bd_image.specs.Layout.{name_field, used_mark}
-use Rattle.bd_image.specs.Rules.{IsNameByte, IsNameField}
+use Rattle.std.proofs.Common.{◌≡◌, ◌<◌, ◌≤◌, ℕ, slice_index}
 use Rattle.bd_image.proofs.reader.names.is_zero_from.Given as goal
 
 abbrev pub invariant-loop-k : goal.invariant-loop-k

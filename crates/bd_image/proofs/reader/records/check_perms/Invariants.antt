@@ -1,7 +1,5 @@
-use Rattle.std.proofs.Common.{◌≡◌, ◌+◌, ◌<◌, ◌≤◌, ℕ}
-use Rattle.bd_image.specs.Layout.{byte_at, extent_count, inode_count, perms_at, record_place, used_mark, IsUsed}
-use Rattle.bd_image.specs.Checks.{AreZero}
-use Rattle.bd_image.specs.Rules.{IsInRest}
+use Rattle.std.proofs.Common.{◌≡◌, ◌<◌, ◌≤◌, ℕ}
+use Rattle.bd_image.specs.Layout.{perms_at, used_mark}
 use Rattle.bd_image.proofs.reader.records.check_perms.Given as goal
 
 abbrev pub invariant-loop-j : goal.invariant-loop-j

@@ -1,7 +1,7 @@
-use Rattle.std.proofs.Common.{◌≡◌, ◌<◌, ◌↔◌, ◌⊎◌, List, ℕ, IsTrue, length, rules, subst, sym, ap, ◌∙◌, arith, below_more}
+use Rattle.std.proofs.Common.{◌≡◌, ◌<◌, ◌↔◌, ◌⊎◌, ℕ, length, subst, sym, ◌∙◌, arith, below_more}
 use Rattle.std.proofs.lemmas.Bool.{false≢true}
 use Rattle.bd_base.specs.declared.volume.Extent.{Extent}
-use Rattle.bd_image.specs.Layout.{extent_at, extent_count}
+use Rattle.bd_image.specs.Layout.{extent_count}
 use Rattle.bd_image.specs.Rules.{IsExtent}
 use Rattle.bd_image.specs.Sharing.{IsInExtent, IsTakenIn, SharesEarlier}
 use Rattle.bd_image.proofs.Sharing.{marks_end, marks_more, shares_none}

@@ -1,6 +1,4 @@
-use Rattle.std.proofs.Common.{◌≡◌, ◌+◌, ◌<◌, ◌≤◌, ◌⊎◌, ◌↔◌, ℕ, length}
-use Rattle.bd_image.specs.Layout.{extent_at, extent_count, used_mark}
-use Rattle.bd_image.specs.Sharing.{IsTakenIn, MarksBefore, SharesNone}
+use Rattle.bd_image.specs.Sharing.{MarksBefore, SharesNone}
 use Rattle.bd_image.proofs.reader.sharing.first_shared.Given as goal
 
 abbrev pub invariant-loop-e : goal.invariant-loop-e

@@ -1,6 +1,5 @@
-use Rattle.std.proofs.Common.{◌≡◌, ◌+◌, ◌<◌, ◌≤◌, ◌⊎◌, ◌↔◌, ℕ, length}
-use Rattle.bd_image.specs.Layout.{extent_at, extent_count, used_mark}
-use Rattle.bd_image.specs.Sharing.{IsTakenIn, MarksBefore, SharesNone}
+use Rattle.std.proofs.Common.{◌<◌, ◌≤◌, ◌⊎◌, ◌↔◌, ℕ, length}
+use Rattle.bd_image.specs.Sharing.{IsTakenIn}
 use Rattle.bd_image.proofs.reader.sharing.take_blocks.Given as goal
 
 abbrev pub invariant-loop-x : goal.invariant-loop-x

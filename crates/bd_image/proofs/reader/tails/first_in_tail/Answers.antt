@@ -1,7 +1,6 @@
-use Rattle.std.proofs.Common.{◌≡◌, ℕ, ◌+◌, ◌-◌, ◌*◌, ◌<◌, ◌≤◌, ◌∙◌, ap, arith, rules}
+use Rattle.std.proofs.Common.{◌≡◌, ◌+◌, ◌-◌, ◌*◌, ◌<◌, ◌∙◌, ap, arith, rules}
 use Rattle.bd_base.specs.Files.{blocks_for}
 use Rattle.bd_image.specs.Layout.{extent_at, extent_count, size_at}
-use Rattle.bd_image.specs.Rules.{IsInTail}
 use Rattle.bd_image.proofs.Tails.{in_tail-of, in_tail-to, tail_searched}
 use Rattle.bd_image.proofs.reader.tails.first_in_tail.Goals as goal
 

@@ -1,4 +1,3 @@
-use Rattle.std.proofs.Common.{◌≡◌, ◌<◌, ◌≤◌, ℕ, get_or}
 use Rattle.bd_image.specs.Checks.{AreZero}
 use Rattle.bd_image.proofs.reader.zeros.first_nonzero.Given as goal
 
