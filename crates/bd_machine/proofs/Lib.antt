@@ -10,3 +10,5 @@ pub mod Resting
 pub mod Kept
 pub mod RoundTurns
 pub mod RunToEnd
+pub mod JournalLaws
+pub mod RuleLaws

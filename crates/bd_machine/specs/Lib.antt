@@ -7,3 +7,4 @@ pub mod Machine
 pub mod Course
 pub mod Simple
 pub mod Running
+pub mod Laws

@@ -3,6 +3,7 @@
 
 mod entry;
 mod files;
+pub mod laws;
 mod machine;
 mod open_file;
 mod processor;

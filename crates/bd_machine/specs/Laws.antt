@@ -1,0 +1,45 @@
+-- Laws of stores, journals and rules: each is the contract of a function of src/laws.rt.
+use Rattle.std.specs.Prelude.{◌≡◌, ℕ, ◌↔◌, List, ◌++◌}
+use Rattle.bd_base.specs.declared.script.Script.{Script}
+use Rattle.bd_machine.specs.declared.entry.Entry.{Entry}
+use Rattle.bd_machine.specs.declared.turn.Event.{Event}
+use Rattle.bd_machine.specs.Course.{after_events, visible}
+use Rattle.bd_machine.specs.History.{InOrderFrom, Legal}
+use Rattle.bd_machine.specs.Machine.{State, after_turn, visible_of}
+use Rattle.bd_machine.specs.Rules.{BreaksRule, EntryRule, entry_rule_number}
+use Rattle.bd_machine.specs.Store.{Store}
+
+-- a journal in two parts leads where the first part and then the second lead
+abbrev pub LegalInParts : Type 0
+LegalInParts =
+    (script : Script) (front back : List Entry) (s t : Store) →
+    Legal script s (front ++ back) t ↔ ((middle : Store) × Legal script s front middle × Legal script middle back t)
+
+-- a journal in two parts is in order where the first part is, and the second after it
+abbrev pub InOrderInParts : Type 0
+InOrderInParts =
+    (script : Script) (before front back : List Entry) →
+    InOrderFrom script before (front ++ back) ↔ (InOrderFrom script before front × InOrderFrom script (before ++ front) back)
+
+-- a legal journal leads to one store only
+abbrev pub LeadsToOneStore : Type 0
+LeadsToOneStore =
+    (script : Script) (s : Store) (journal : List Entry) (t u : Store) → Legal script s journal t → Legal script s journal u → t ≡ u
+
+-- a turn adds its visible entry at the end of the journal, and changes nothing before it
+abbrev pub TurnsOnlyAdd : Type 0
+TurnsOnlyAdd = (m : State) (actor : ℕ) → (after_turn m actor).journal ≡ m.journal ++ visible_of m actor
+
+-- so do many turns
+abbrev pub RunsOnlyAdd : Type 0
+RunsOnlyAdd = (m : State) (events : List Event) → (after_events m events).journal ≡ m.journal ++ visible m events
+
+-- no two rules have one number
+abbrev pub NumbersDiffer : Type 0
+NumbersDiffer = (p q : EntryRule) → entry_rule_number p ≡ entry_rule_number q → p ≡ q
+
+-- an entry at its place has one least broken rule at most
+abbrev pub OneLeastRule : Type 0
+OneLeastRule =
+    (script : Script) (before : List Entry) (s : Store) (e : Entry) (m n : ℕ) →
+    BreaksRule script before s e m → BreaksRule script before s e n → m ≡ n
