@@ -1,14 +1,12 @@
 -- Journals in parts, the one store that a journal leads to, and journals that grow.
-use Rattle.std.proofs.Common.{◌≡◌, ℕ, ◌<◌, List, [], ◌∷◌, ◌++◌, Option, None, Some, refl, sym, ap, ◌∙◌, subst, append_assoc, arith}
+use Rattle.std.proofs.Common.{◌≡◌, ℕ, List, [], ◌∷◌, ◌++◌, Option, None, Some, refl, sym, ap, ◌∙◌, subst, append_assoc}
 use Rattle.std.specs.Option.{option_map_or}
 use Rattle.std.proofs.lemmas.List.{append-nil}
 use Rattle.std.proofs.lemmas.Option.{same_Some}
-use Rattle.std.proofs.lemmas.Bool.{cases_lt}
 use Rattle.bd_base.specs.declared.script.Call.{Call}
 use Rattle.bd_base.specs.declared.script.Script.{Script}
 use Rattle.bd_machine.specs.declared.entry.Entry.{Entry}
-use Rattle.bd_machine.specs.declared.turn.Event.{Event}
-use Rattle.bd_machine.specs.Course.{after_events, visible}
+use Rattle.bd_machine.specs.Course.{visible}
 use Rattle.bd_machine.specs.History.{InOrderFrom, Legal, Step, effect_of}
 use Rattle.bd_machine.specs.Laws.{InOrderInParts, LeadsToOneStore, LegalInParts, RunsOnlyAdd, TurnsOnlyAdd}
 use Rattle.bd_machine.specs.Machine.{Action, State, action_of, after_turn, state_after, visible_of}
@@ -45,9 +43,11 @@ InOrderFrom-parted script before (e ∷ front) back order =
 InOrderFrom-joined : (script : Script) (before front back : List Entry) → InOrderFrom script before front → InOrderFrom script (before ++ front) back →
     InOrderFrom script before (front ++ back)
 InOrderFrom-joined script before [] back first order = subst (λ (head : List Entry). InOrderFrom script head back) (append-nil before) order
-InOrderFrom-joined script before (e ∷ front) back first order =
-    (first.0, InOrderFrom-joined script (before ++ e ∷ []) front back first.1
-    (subst (λ (head : List Entry). InOrderFrom script head back) (sym (append_assoc before (e ∷ []) front)) order))
+InOrderFrom-joined script before (e ∷ front) back first order = (
+  first.0,
+  InOrderFrom-joined script (before ++ e ∷ []) front back first.1
+      (subst (λ (head : List Entry). InOrderFrom script head back) (sym (append_assoc before (e ∷ []) front)) order),
+)
 
 pub in_order_in_parts : InOrderInParts
 in_order_in_parts script before front back =

@@ -12,3 +12,6 @@ pub mod RoundTurns
 pub mod RunToEnd
 pub mod JournalLaws
 pub mod RuleLaws
+pub mod Slots
+pub mod Descriptors
+pub mod StoreLaws

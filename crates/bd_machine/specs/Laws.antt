@@ -1,13 +1,34 @@
 -- Laws of stores, journals and rules: each is the contract of a function of src/laws.rt.
-use Rattle.std.specs.Prelude.{◌≡◌, ℕ, ◌↔◌, List, ◌++◌}
+use Rattle.std.specs.Prelude.{◌≡◌, ℕ, ◌↔◌, false, List, [], ◌∷◌, ◌++◌}
+use Rattle.bd_base.specs.declared.script.Call.{Call}
 use Rattle.bd_base.specs.declared.script.Script.{Script}
+use Rattle.bd_base.specs.declared.volume.Volume.{Volume}
 use Rattle.bd_machine.specs.declared.entry.Entry.{Entry}
 use Rattle.bd_machine.specs.declared.turn.Event.{Event}
 use Rattle.bd_machine.specs.Course.{after_events, visible}
-use Rattle.bd_machine.specs.History.{InOrderFrom, Legal}
+use Rattle.bd_machine.specs.Calls.{at_of, is_ended_by}
+use Rattle.bd_machine.specs.History.{InOrderFrom, Legal, Step}
 use Rattle.bd_machine.specs.Machine.{State, after_turn, visible_of}
-use Rattle.bd_machine.specs.Rules.{BreaksRule, EntryRule, entry_rule_number}
-use Rattle.bd_machine.specs.Store.{Store}
+use Rattle.bd_machine.specs.Rules.{BreaksRule, EntryRule, IsOfCall, entry_rule_number}
+use Rattle.bd_machine.specs.Store.{HasSoundFiles, Store, Valid, start_store, work_of}
+
+-- each of these entries is one that the call makes, after those before it
+abbrev pub AreOfCall : Call → List Entry → List Entry → Type 0
+AreOfCall call before [] = Unit {0}
+AreOfCall call before (e ∷ entries) = IsOfCall call before e × AreOfCall call (before ++ e ∷ []) entries
+
+-- the entry is the next one of the running call: it and those before it are of the call, which is not ended by them
+pub record IsNextEntry (s : Store) (call : Call) (e : Entry) : Type 0 where
+  pub of_call : AreOfCall call [] (work_of s (at_of e).process ++ e ∷ [])
+  pub unfinished : is_ended_by call (work_of s (at_of e).process) ≡ false
+
+-- a step of a running call leads from a valid store to a valid one
+abbrev pub StepKeepsValid : Type 0
+StepKeepsValid = (s : Store) (call : Call) (e : Entry) (t : Store) → Valid s → IsNextEntry s call e → Step s call e t → Valid t
+
+-- where the files of a volume are sound, the store that begins with it is valid
+abbrev pub StartIsValid : Type 0
+StartIsValid = (v : Volume) (script : Script) → HasSoundFiles v.total v.inodes v.bytes → Valid (start_store v script)
 
 -- a journal in two parts leads where the first part and then the second lead
 abbrev pub LegalInParts : Type 0
