@@ -13,3 +13,8 @@ pub mod RunToEnd
 pub mod Numbers
 pub mod Fields
 pub mod Wishes
+pub mod JournalLaws
+pub mod RuleLaws
+pub mod Slots
+pub mod Descriptors
+pub mod StoreLaws

@@ -9,3 +9,4 @@ pub mod Simple
 pub mod Running
 pub mod Texts
 pub mod Refusals
+pub mod Laws

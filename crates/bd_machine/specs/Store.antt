@@ -43,12 +43,18 @@ abbrev pub file_at : Store → ℕ → Option Inode
 file_at s file = in_slot s.files file
 
 -- the size of a file, 0 where there is none
+abbrev pub size_at : List (Option Inode) → ℕ → ℕ
+size_at files file = option_map_or (λ (f : Inode). f.size) (in_slot files file) 0
+
 abbrev pub size_of : Store → ℕ → ℕ
-size_of s file = option_map_or (λ (f : Inode). f.size) (file_at s file) 0
+size_of s file = size_at s.files file
 
 -- the blocks of a file, none where there is no such file
+abbrev pub blocks_at : List (Option Inode) → ℕ → List ℕ
+blocks_at files file = option_map_or (λ (f : Inode). f.blocks) (in_slot files file) []
+
 abbrev pub blocks_in : Store → ℕ → List ℕ
-blocks_in s file = option_map_or (λ (f : Inode). f.blocks) (file_at s file) []
+blocks_in s file = blocks_at s.files file
 
 -- how many bytes of block number index belong to the file
 abbrev pub limit_at : Store → ℕ → ℕ → ℕ
@@ -168,9 +174,20 @@ pub record IsFile (f : Inode) : Type 0 where
   pub blocks : length f.blocks ≡ blocks_for f.size
   pub runs : length (extents_of f.blocks) ≤ 24
 
--- the block of a file lies in the data area
-abbrev pub InDataArea : Store → ℕ → Type 0
-InDataArea s block = (data_start (length s.files) ≤ block) × (block < s.total)
+-- what the files of a valid store are, with the number and the bytes of its blocks
+pub record HasSoundFiles (total : ℕ) (files : List (Option Inode)) (bytes : List ℕ) : Type 0 where
+  pub sound : (id : ℕ) (f : Inode) → in_slot files id ≡ Some f → IsFile f
+  pub in_area : (id block : ℕ) → Contains (blocks_at files id) block → (data_start (length files) ≤ block) × (block < total)
+  pub disjoint : (i j block : ℕ) → Contains (blocks_at files i) block → Contains (blocks_at files j) block → i ≡ j
+  pub once : (id i j d : ℕ) → i < length (blocks_at files id) → j < length (blocks_at files id) → slice_index_or (blocks_at files id) i d ≡ slice_index_or (blocks_at files id) j d → i ≡ j
+  pub tails : (id i d : ℕ) → size_at files id ≤ i → i < BLOCK_SIZE * length (blocks_at files id) → slice_index_or bytes (BLOCK_SIZE * slice_index_or (blocks_at files id) (i / BLOCK_SIZE) d + i % BLOCK_SIZE) 0 ≡ 0
+  pub names : (i j : ℕ) (f g : Inode) → in_slot files i ≡ Some f → in_slot files j ≡ Some g → f.name ≡ g.name → i ≡ j
+
+-- each process has a row of descriptors, each row as many slots as a process has numbers for them, and a row for its running call
+pub record HasRows (s : Store) : Type 0 where
+  pub uids : length s.uids ≡ length s.opens
+  pub work : length s.work ≡ length s.opens
+  pub slots : All (λ (row : List (Option Descriptor)). length row ≡ DESCRIPTORS) s.opens
 
 -- whether the entry attaches a right by this descriptor
 abbrev pub attaches_by : ℕ → Entry → Bool
@@ -187,12 +204,8 @@ pub record IsDescriptor (s : Store) (process fd : ℕ) (d : Descriptor) : Type 0
 
 -- what every store that a legal journal leads to is
 pub record Valid (s : Store) : Type 0 where
-  pub files : (id : ℕ) (f : Inode) → file_at s id ≡ Some f → IsFile f
-  pub in_area : (id block : ℕ) → Contains (blocks_in s id) block → InDataArea s block
-  pub disjoint : (i j block : ℕ) → Contains (blocks_in s i) block → Contains (blocks_in s j) block → i ≡ j
-  pub once : (id i j d : ℕ) → i < length (blocks_in s id) → j < length (blocks_in s id) → slice_index_or (blocks_in s id) i d ≡ slice_index_or (blocks_in s id) j d → i ≡ j
-  pub tails : (id i d : ℕ) → size_of s id ≤ i → i < BLOCK_SIZE * length (blocks_in s id) → slice_index_or s.bytes (BLOCK_SIZE * slice_index_or (blocks_in s id) (i / BLOCK_SIZE) d + i % BLOCK_SIZE) 0 ≡ 0
-  pub names : (i j : ℕ) (f g : Inode) → file_at s i ≡ Some f → file_at s j ≡ Some g → f.name ≡ g.name → i ≡ j
+  pub files : HasSoundFiles s.total s.files s.bytes
+  pub rows : HasRows s
   pub descriptors : (process fd : ℕ) (d : Descriptor) → descriptor_at s process fd ≡ Some d → IsDescriptor s process fd d
 
 -- the store of a volume with nothing open

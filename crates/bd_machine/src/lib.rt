@@ -4,6 +4,7 @@
 mod entry;
 mod error;
 mod files;
+pub mod laws;
 mod machine;
 mod open_file;
 mod processor;

@@ -1,0 +1,8 @@
+use Rattle.bd_machine.proofs.RuleLaws.{numbers_differ, one_least_rule}
+use Rattle.bd_machine.proofs.laws.one_least_rule.Goals as goal
+
+pub returns-clause-numbers : goal.returns-clause-numbers
+returns-clause-numbers c = numbers_differ
+
+pub returns-clause-least : goal.returns-clause-least
+returns-clause-least c = one_least_rule
