@@ -1,0 +1,9 @@
+pub mod Changes
+pub mod Counts
+pub mod FileLists
+pub mod Growth
+pub mod Images
+pub mod Loading
+pub mod MadeAndRemoved
+pub mod Names
+pub mod NoFiles

@@ -1,0 +1,4 @@
+pub mod Asks
+pub mod Errors
+pub mod Files
+pub mod Kept
