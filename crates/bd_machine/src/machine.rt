@@ -103,9 +103,10 @@ impl Machine {
         self.run.trace.as_slice()
     }
 
-    /// The volume as the turns so far have left it.
+    /// The volume as the turns so far have left it: the one from which the machine started, since no simple script writes.
     pub fn volume(&self) -> Result<Volume, OutOfMemory>
-        ensures { IfOk result (λ volume. volume ≡ volume_in self.now.state.store) }
+        ensures left { IfOk result (λ volume. volume ≡ volume_in self.now.state.store) }
+        ensures unchanged { IfOk result (λ volume. volume ≡ self.now.start) }
     {
         self.start.copy()
     }
