@@ -1,0 +1,4 @@
+-- Lemmas on texts, and on what was read.
+pub mod Appending
+pub mod Reading
+pub mod ReportText

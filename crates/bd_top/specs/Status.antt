@@ -1,0 +1,34 @@
+-- The exit code and the line of each status.
+use Rattle.std.specs.Prelude.{ℕ, List, [], ◌++◌, codes}
+use Rattle.std.specs.Fmt.{decimal}
+use Rattle.bd_top.specs.declared.status.Status.{Status}
+use Rattle.bd_top.specs.declared.status.Status.TheVariants.{Done, Usage, ReadFault, WriteFault, BadImage, BadScript, OutOfMemory}
+use Rattle.bd_top.specs.declared.status.To.TheVariants.{Out, Disk}
+use Rattle.bd_top.specs.declared.status.Which.TheVariants.{Image, Script}
+
+abbrev pub code_of : Status → ℕ
+code_of Done = 0
+code_of Usage = 2
+code_of (ReadFault which) = 3
+code_of (WriteFault to) = 4
+code_of (BadImage rule place) = 5
+code_of (BadScript line rule) = 6
+code_of OutOfMemory = 7
+
+abbrev pub bad_image_text : ℕ → ℕ → List ℕ
+bad_image_text rule place = codes "bypassd: bad image: rule " ++ decimal rule ++ codes " at " ++ decimal place
+
+abbrev pub bad_script_text : ℕ → ℕ → List ℕ
+bad_script_text line rule = codes "bypassd: bad script: rule " ++ decimal rule ++ codes " at line " ++ decimal line
+
+-- the line that tells a status, without its end
+abbrev pub fault_text_of : Status → List ℕ
+fault_text_of Done = []
+fault_text_of Usage = codes "bypassd: usage"
+fault_text_of (ReadFault Image) = codes "bypassd: read fault: image"
+fault_text_of (ReadFault Script) = codes "bypassd: read fault: script"
+fault_text_of (WriteFault Out) = codes "bypassd: write fault: out"
+fault_text_of (WriteFault Disk) = codes "bypassd: write fault: disk"
+fault_text_of (BadImage rule place) = bad_image_text rule place
+fault_text_of (BadScript line rule) = bad_script_text line rule
+fault_text_of OutOfMemory = codes "bypassd: out of memory"

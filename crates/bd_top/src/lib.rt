@@ -1,0 +1,12 @@
+//! The commands: what each reads, does and writes.
+#![tactic(auto)]
+
+mod replay;
+mod report;
+mod status;
+mod text;
+mod words;
+
+pub use replay::replay_all;
+pub use status::{Outcome, Status, To, Which, code, fault_text};
+pub use words::{Command, read_words};

@@ -1,0 +1,117 @@
+//! How a command ends, the exit code of each end, and its line of text.
+ghost use Rattle.std.specs.Prelude.{◌≡◌, ◌++◌, IfOk, OnOk};
+ghost use Rattle.bd_top.specs.Status.{bad_image_text, bad_script_text, code_of, fault_text_of};
+
+use crate::text::{push, push_number};
+use bd_base::{Bytes, List, OutOfMemory};
+use bd_machine::{EntryList, EventList};
+use std::alloc::Global;
+
+/// A source that a command reads.
+#[derive(Clone, Copy, Debug, PartialEq, Eq)]
+pub enum Which {
+    Image,
+    Script,
+}
+
+/// A sink that a command writes to.
+#[derive(Clone, Copy, Debug, PartialEq, Eq)]
+pub enum To {
+    Out,
+    Disk,
+}
+
+/// How a command ended.
+#[derive(Clone, Copy, Debug, PartialEq, Eq)]
+pub enum Status {
+    /// All was written.
+    Done,
+    /// The words are those of no command.
+    Usage,
+    /// A read of this source failed.
+    ReadFault(Which),
+    /// A write to this sink failed; what went out is a prefix.
+    WriteFault(To),
+    /// The image breaks this rule, the least, at this place, the least (docs/FORMATS.md).
+    BadImage { rule: u8, place: u64 },
+    /// The script is not one that is run: line and rule are 0.
+    BadScript { line: u64, rule: u8 },
+    /// No memory was found; what went out is a prefix.
+    OutOfMemory,
+}
+
+/// A status, and the journal and the trace of the run where there was one.
+#[derive(Debug, Drop)]
+pub struct Outcome {
+    pub status: Status,
+    /// Empty after a status before the run.
+    pub journal: EntryList,
+    /// Empty after a status before the run.
+    pub trace: EventList,
+}
+
+/// The exit code of a status.
+pub fn code(status: &Status) -> u8
+    ensures { result ≡ code_of status.now }
+{
+    match status {
+        Status::Done => 0,
+        Status::Usage => 2,
+        Status::ReadFault(_) => 3,
+        Status::WriteFault(_) => 4,
+        Status::BadImage { .. } => 5,
+        Status::BadScript { .. } => 6,
+        Status::OutOfMemory => 7,
+    }
+}
+
+/// The line of text that tells a status, without its end; nothing for Done.
+pub fn fault_text(alloc: Global, status: &Status) -> Result<Bytes, OutOfMemory>
+    ensures { IfOk result (λ text. text ≡ fault_text_of status.now) }
+{
+    let mut text = Vec::new(alloc);
+    match status {
+        Status::Done => {}
+        Status::Usage => push(&mut text, b"bypassd: usage")?,
+        Status::ReadFault(Which::Image) => push(&mut text, b"bypassd: read fault: image")?,
+        Status::ReadFault(Which::Script) => push(&mut text, b"bypassd: read fault: script")?,
+        Status::WriteFault(To::Out) => push(&mut text, b"bypassd: write fault: out")?,
+        Status::WriteFault(To::Disk) => push(&mut text, b"bypassd: write fault: disk")?,
+        Status::BadImage { rule, place } => push_bad_image(alloc, &mut text, *rule, *place)?,
+        Status::BadScript { line, rule } => push_bad_script(alloc, &mut text, *line, *rule)?,
+        Status::OutOfMemory => push(&mut text, b"bypassd: out of memory")?,
+    }
+    Ok(List::from_vec(text))
+}
+
+/// Appends the line of a bad image.
+fn push_bad_image(
+    alloc: Global,
+    text: &mut Vec<u8>,
+    rule: u8,
+    place: u64,
+) -> Result<(), OutOfMemory>
+    ensures { OnOk result (text.new.items ≡ text.old.items ++ bad_image_text rule place) }
+{
+    push(text, b"bypassd: bad image: rule ")?;
+    push_number(alloc, text, u64::from(rule))?;
+    push(text, b" at ")?;
+    push_number(alloc, text, place)?;
+    Ok(())
+}
+
+/// Appends the line of a bad script.
+fn push_bad_script(
+    alloc: Global,
+    text: &mut Vec<u8>,
+    line: u64,
+    rule: u8,
+) -> Result<(), OutOfMemory>
+    ensures { OnOk result (text.new.items ≡ text.old.items ++ bad_script_text line rule) }
+{
+    push(text, b"bypassd: bad script: rule ")?;
+    push_number(alloc, text, u64::from(rule))?;
+    push(text, b" at line ")?;
+    push_number(alloc, text, line)?;
+    Ok(())
+}
