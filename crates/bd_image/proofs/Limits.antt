@@ -1,23 +1,28 @@
--- An accepted volume is within the limits of an image.
-use Rattle.std.proofs.Common.{◌≡◌, ◌≤◌, ◌<◌, ◌+◌, ◌*◌, inl, inr, ℕ, zero, suc, eqb, List, Option, Some, None, length, map, drop, replicate, ap, sym, subst, arith}
-use Rattle.std.proofs.lemmas.Bool.{cases_eq, cond-false, cond-true, eq-eqb, ne_eqb}
+-- An accepted volume has the files of an image, and the bytes of all its blocks.
+use Rattle.std.proofs.Common.{◌≡◌, ◌≤◌, ◌<◌, ◌+◌, ◌*◌, inl, inr, ℕ, zero, suc, Bool, true, ◌⊎◌, ◌&&◌, ◌||◌, nat_eq, nat_le, nat_lt, IsTrue, List, Option, None, Some, get_or, length, map, drop, replicate, refl, ap, sym, subst, arith}
+use Rattle.std.proofs.lemmas.Bool.{and_from, eq-eqb, le-leb, lt-ltb, or_left, or_right}
 use Rattle.std.proofs.lemmas.List.{length-append, length-drop, length-replicate}
-use Rattle.std.proofs.lemmas.List.Elements.{All-append, All-from_get_or, All-nil}
+use Rattle.std.proofs.lemmas.List.Elements.{All-append, All-from_get_or, All-nil, All-weaker}
 use Rattle.std.proofs.lemmas.List.FromFn.{get_or-range_with_len, length-map-range_with_len, length-range_with_len}
 use Rattle.std.specs.List.{All, range_with_len}
 use Rattle.std.specs.Option.{IfSome}
 use Rattle.bd_base.specs.declared.volume.Extent.{Extent}
 use Rattle.bd_base.specs.declared.volume.Inode.{Inode}
 use Rattle.bd_base.specs.declared.volume.Volume.{Volume}
+use Rattle.bd_base.specs.Allocation.{is_data_block}
 use Rattle.bd_base.specs.Extents.{blocks_of, extents_of}
-use Rattle.bd_image.specs.Layout.{IsUsed, block_count, blocks_at, data_start, extent_at, extent_count, inode_count, name_at, name_field, used_mark}
-use Rattle.bd_image.specs.Limits.{IsFile, IsWithinLimits}
-use Rattle.bd_image.specs.Rules.{Accepted, IsInDataArea, IsInodeCount, BlockCount, ExtentCount, ExtentJoins, ExtentRange, ExtentShares, InodeCount, Length, NameForm, NameFresh, Perms, Size}
-use Rattle.bd_image.specs.Volumes.{AcceptedVolume, inode_at, volume_of}
+use Rattle.bd_base.specs.Files.{data_start}
+use Rattle.bd_base.specs.Inodes.{AreFiles, IsValidFile, is_name_byte}
+use Rattle.bd_base.specs.Inodes as base
+use Rattle.bd_base.specs.Names.{IsName, IsNameByte}
+use Rattle.bd_image.specs.Layout.{IsUsed, block_count, blocks_at, extent_at, extent_count, inode_count, name_at, name_field}
+use Rattle.bd_image.specs.Limits.{FitsRecord, IsWithinLimits}
+use Rattle.bd_image.specs.Rules.{Accepted, IsInDataArea, BlockCount, ExtentCount, ExtentJoins, ExtentRange, ExtentShares, InodeCount, Length, NameForm, NameFresh, Perms, Size}
+use Rattle.bd_image.specs.Volumes.{AcceptedVolume, volume_of}
 use Rattle.bd_image.proofs.Names.{name-found}
-use Rattle.bd_image.proofs.Owned.{owned_once, own_names}
+use Rattle.bd_image.proofs.Owned.{file-is, owned_once, own_names}
 use Rattle.bd_image.proofs.Records.{extents_of-blocks_at}
-use Rattle.bd_image.proofs.Taken.{file_at, inodes_of, inodes_of-get_or, length-inodes_of}
+use Rattle.bd_image.proofs.Taken.{file_at, inodes_of, length-inodes_of}
 use Rattle.bd_image.proofs.Whole.{data_place, records_within}
 
 -- what holds of each block of each extent holds of each block
@@ -32,32 +37,79 @@ All-blocks_of P f (suc n) a each =
     rw (get_or-range_with_len (f a).start (f a).length k 0 within) (each a ((f a).start + k) (omega arith) (omega arith) (omega arith) (omega arith))))
     (All-blocks_of P f n (a + 1) (λ e x low high. each e x (omega arith) (omega arith)))
 
-file-fits : (b : List ℕ) (j : ℕ) → Accepted b → IsUsed b j → IsFile (block_count b) (inode_count b) (file_at b j)
-file-fits b j h used =
-    let found : name_at b j ≡ (h NameForm j used).name = name-found (name_field b j) (h NameForm j used) in
+-- one of five tests holds
+one_of_five : (a b c d e : Bool) → (a ≡ true) ⊎ ((b ≡ true) ⊎ ((c ≡ true) ⊎ ((d ≡ true) ⊎ (e ≡ true)))) → (a || b || c || d || e) ≡ true
+one_of_five a b c d e (inl h) = or_left (a || b || c || d) e (or_left (a || b || c) d (or_left (a || b) c (or_left a b h)))
+one_of_five a b c d e (inr (inl h)) = or_left (a || b || c || d) e (or_left (a || b || c) d (or_left (a || b) c (or_right a b h)))
+one_of_five a b c d e (inr (inr (inl h))) = or_left (a || b || c || d) e (or_left (a || b || c) d (or_right (a || b) c h))
+one_of_five a b c d e (inr (inr (inr (inl h)))) = or_left (a || b || c || d) e (or_right (a || b || c) d h)
+one_of_five a b c d e (inr (inr (inr (inr h)))) = or_right (a || b || c || d) e h
+
+-- a byte of a name passes the test of such bytes
+is_name_byte-from : (c : ℕ) → IsNameByte c → IsTrue (is_name_byte c)
+is_name_byte-from c h =
+    one_of_five (nat_le 97 c && nat_le c 122) (nat_le 48 c && nat_le c 57) (nat_eq c 46) (nat_eq c 95) (nat_eq c 45) (elim h [
+      | inl letter ↦ inl (and_from (nat_le 97 c) (nat_le c 122) (le-leb 97 c letter.0) (le-leb c 122 letter.1))
+      | inr (inl digit) ↦ inr (inl (and_from (nat_le 48 c) (nat_le c 57) (le-leb 48 c digit.0) (le-leb c 57 digit.1)))
+      | inr (inr (inl dot)) ↦ inr (inr (inl (eq-eqb c 46 dot)))
+      | inr (inr (inr (inl underscore))) ↦ inr (inr (inr (inl (eq-eqb c 95 underscore))))
+      | inr (inr (inr (inr dash))) ↦ inr (inr (inr (inr (eq-eqb c 45 dash))))
+    ])
+
+-- a name by its bytes is one by the test of its bytes
+IsName-from : (name : List ℕ) → IsName name → base.IsName name
+IsName-from name is = record {
+  not_empty = is.least;
+  short = is.most;
+  bytes = All-weaker IsNameByte (λ c. IsTrue (is_name_byte c)) is_name_byte-from name is.bytes;
+}
+
+-- the file of a used record
+valid-file : (b : List ℕ) (j : ℕ) → Accepted b → IsUsed b j → IsValidFile (block_count b) (inode_count b) (file_at b j)
+valid-file b j h used =
     let same : extents_of (blocks_at b j) ≡ map (extent_at b j) (range_with_len 0 (extent_count b j)) = extents_of-blocks_at b j (h ExtentRange) (h ExtentJoins) used in
     record {
-      name = rw found (h NameForm j used).is_name;
-      perms = h Perms j used;
-      size = (h Size j used).0;
-      as_many = (h Size j used).1;
       in_data_area =
-          All-blocks_of (λ x. (data_start (inode_count b) ≤ x) × (x < block_count b)) (extent_at b j) (extent_count b j) 0
+          All-blocks_of (λ block. IsTrue (is_data_block (block_count b) (inode_count b) block)) (extent_at b j) (extent_count b j) 0
           (λ e x low high from below.
           let inside : IsInDataArea (block_count b) (inode_count b) (extent_at b j e) = h ExtentRange j e (used, omega arith) in
           let start : data_start (inode_count b) ≤ (extent_at b j e).start = inside.start in
           let end : (extent_at b j e).start + (extent_at b j e).length ≤ block_count b = inside.end in
-          (omega arith, omega arith));
-      extents = omega (arith, ap length same, length-map-range_with_len (extent_at b j) 0 (extent_count b j), h ExtentCount j used);
+          and_from (nat_le (data_start (inode_count b)) x) (nat_lt x (block_count b)) (le-leb (data_start (inode_count b)) x (omega arith)) (lt-ltb x (block_count b) (omega arith)));
+      enough_blocks = (h Size j used).1;
+      size_in_range = (h Size j used).0;
+      few_extents = omega (arith, ap length same, length-map-range_with_len (extent_at b j) 0 (extent_count b j), h ExtentCount j used);
     }
 
-inode-fits : (b : List ℕ) (j : ℕ) → Accepted b → j < inode_count b → IfSome (inode_at b j) (IsFile (block_count b) (inode_count b))
-inode-fits b j h there =
-    let P : Option Inode → Type 0 = λ file. IfSome file (IsFile (block_count b) (inode_count b)) in
-    elim (cases_eq (used_mark b j) 1) [
-      | inl used ↦ subst P (sym (cond-true (eqb (used_mark b j) 1) (Some (file_at b j)) None (eq-eqb (used_mark b j) 1 used))) (file-fits b j h (there, used))
-      | inr unused ↦ subst P (sym (cond-false (eqb (used_mark b j) 1) (Some (file_at b j)) None (ne_eqb (used_mark b j) 1 unused))) tt
-    ]
+-- what holds of the file of each used record holds of each file of the volume
+each-file : (b : List ℕ) (P : Inode → Type 0) → ((j : ℕ) → IsUsed b j → P (file_at b j)) → (id : ℕ) (file : Inode) → get_or (inodes_of b) id None ≡ Some file → P file
+each-file b P h id file at = let (used, is) = file-is b id file at in subst P is (h id used)
+
+-- the files of the volume of an accepted image are files of an image
+AreFiles-inodes_of : (b : List ℕ) → Accepted b → AreFiles (block_count b) (inodes_of b)
+AreFiles-inodes_of b h =
+    let long : length (inodes_of b) ≡ inode_count b = length-inodes_of b in
+    let all : block_count b * 4096 ≡ length b = h BlockCount in
+    let least : 81920 ≤ length b = (h Length).least in
+    let most : length b ≤ 67108864 = (h Length).most in
+    record {
+      valid = record {
+        few_blocks = omega arith;
+        few_files = omega (arith, long, (h InodeCount).most);
+        each = each-file b (IsValidFile (block_count b) (length (inodes_of b)))
+            (λ j used. subst (λ (n : ℕ). IsValidFile (block_count b) n (file_at b j)) (sym long) (valid-file b j h used));
+        owned_once = owned_once b (h ExtentShares);
+        names_differ = own_names b (h NameForm) (h NameFresh);
+      };
+      enough_blocks = omega arith;
+      some_room = omega (arith, long, (h InodeCount).least);
+      whole_blocks = rw long (h InodeCount).whole_blocks;
+      names = each-file b (λ file. base.IsName file.name)
+          (λ j used.
+          let found : name_at b j ≡ (h NameForm j used).name = name-found (name_field b j) (h NameForm j used) in
+          subst base.IsName (sym found) (IsName-from (h NameForm j used).name (h NameForm j used).is_name));
+      perms = each-file b (λ file. file.perms < 16) (λ j used. omega (arith, h Perms j used));
+    }
 
 image-within_limits : (b : List ℕ) → Accepted b → IsWithinLimits (volume_of b)
 unfolding volume_of
@@ -66,22 +118,22 @@ image-within_limits b h =
     let meta : ℕ = 4096 * data_start m in
     let long : meta ≤ length b = omega (arith, data_place m (h InodeCount).whole_blocks, records_within b h) in
     let all : block_count b * 4096 ≡ length b = h BlockCount in
-    let least : 81920 ≤ length b = (h Length).least in
-    let most : length b ≤ 67108864 = (h Length).most in
     record {
-      records = subst IsInodeCount (sym (length-inodes_of b)) (h InodeCount);
-      least = omega arith;
-      most = omega arith;
       bytes = omega (arith, length-append (replicate meta 0) (drop meta b), length-replicate {A = ℕ} meta 0, length-drop meta b);
-      files =
-          subst (λ (k : ℕ). All (λ file. IfSome file (IsFile (block_count b) k)) (inodes_of b)) (sym (length-inodes_of b))
-          (λ j d low.
-          let there : j < inode_count b = omega (arith, low, length-inodes_of b) in
-          subst (λ (file : Option Inode). IfSome file (IsFile (block_count b) (inode_count b))) (sym (inodes_of-get_or b j d there)) (inode-fits b j h there));
-      owned_once = owned_once b (h ExtentShares);
-      own_names = own_names b (h NameForm) (h NameFresh);
+      files = AreFiles-inodes_of b h;
     }
 
 pub AcceptedVolume-within_limits : (v : Volume) → AcceptedVolume v → IsWithinLimits v
 unfolding AcceptedVolume
 AcceptedVolume-within_limits v (b, are, h, same) = subst IsWithinLimits (sym same) (image-within_limits b h)
+
+-- the files of an image have room in their records
+pub AreFiles-fit : (total : ℕ) (files : List (Option Inode)) → AreFiles total files → All (λ file. IfSome file FitsRecord) files
+AreFiles-fit total files are = All-from_get_or (λ file. IfSome file FitsRecord) files None (λ id low. fits (get_or files id None) id refl)
+  where
+    fits : (file : Option Inode) (id : ℕ) → get_or files id None ≡ file → IfSome file FitsRecord
+    fits None id at = tt
+    fits (Some file) id at = record {
+      name = omega (arith, (are.names id file at).short);
+      extents = (are.valid.each id file at).few_extents;
+    }

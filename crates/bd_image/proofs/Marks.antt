@@ -6,7 +6,8 @@ use Rattle.std.proofs.lemmas.Bool.{cases_lt, false≢true}
 use Rattle.std.proofs.lemmas.List.Elements.{Contains-append_cases, Contains-append_left, Contains-append_right}
 use Rattle.std.proofs.lemmas.List.FromFn.{get_or-range_with_len, length-range_with_len}
 use Rattle.bd_base.specs.declared.volume.Extent.{Extent}
-use Rattle.bd_image.specs.Layout.{blocks_at, data_start, extent_at, inode_count, is_marked, used_mark}
+use Rattle.bd_base.specs.Files.{data_start}
+use Rattle.bd_image.specs.Layout.{blocks_at, extent_at, inode_count, is_marked, used_mark}
 use Rattle.bd_image.specs.Checks.{blocks_before}
 use Rattle.bd_image.specs.Rules.{Bitmap, IsLeastBreak, IsTaken}
 use Rattle.bd_image.specs.Sharing.{IsInExtent, IsTakenIn, MarksFiles, MarksTaken}

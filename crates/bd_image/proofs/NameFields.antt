@@ -3,7 +3,8 @@ use Rattle.std.proofs.Common.{◌≡◌, ℕ, ◌<◌, ◌≤◌, List, length, 
 use Rattle.std.proofs.lemmas.Bool.{cases_lt}
 use Rattle.std.proofs.lemmas.Grind.{common_steps, elements}
 use Rattle.std.proofs.lemmas.List.Elements.{All-get_or, All-from_get_or}
-use Rattle.bd_image.specs.Rules.{IsNameByte, IsNameField}
+use Rattle.bd_base.specs.Names.{IsNameByte}
+use Rattle.bd_image.specs.Rules.{IsNameField}
 use Rattle.bd_image.specs.Checks.{ZeroesFrom}
 
 pub IsNameField-from_parts : (field : List ℕ) (n : ℕ) → length field ≡ 32 → 0 < n → n ≤ 31 → ((k : ℕ) → k < n → IsNameByte (get_or field k 0)) → ZeroesFrom field n → IsNameField field

@@ -4,7 +4,8 @@ use Rattle.std.proofs.lemmas.Bool.{ne_eqb}
 use Rattle.std.proofs.lemmas.List.{get_or_append_left, get_or-append_right, get_or-replicate, length-append, length-replicate, take_at}
 use Rattle.std.proofs.lemmas.List.Sums.{prefix_len_is}
 use Rattle.std.specs.List.{take_while, prefix_len}
-use Rattle.bd_image.specs.Rules.{IsNameByte, IsNameField}
+use Rattle.bd_base.specs.Names.{IsNameByte}
+use Rattle.bd_image.specs.Rules.{IsNameField}
 
 -- a byte of a name is not zero
 not_zero : (c : ℕ) → IsNameByte c → not (eqb c 0) ≡ true

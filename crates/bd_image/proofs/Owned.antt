@@ -8,9 +8,10 @@ use Rattle.std.proofs.lemmas.List.{get_or_past}
 use Rattle.std.proofs.lemmas.List.Folds.{fold-map}
 use Rattle.std.proofs.lemmas.Option.{cond_some, none-some}
 use Rattle.bd_base.specs.declared.volume.Inode.{Inode}
+use Rattle.bd_base.specs.Allocation.{times_listed}
 use Rattle.bd_base.specs.Extents.{blocks_of}
+use Rattle.bd_base.specs.Inodes.{block_lists, blocks_at}
 use Rattle.bd_image.specs.Layout.{IsUsed, extent_at, extent_count, inode_count, name_at, name_field, used_mark}
-use Rattle.bd_image.specs.Limits.{AreOwnedOnce, HaveOwnNames, owned_blocks}
 use Rattle.bd_image.specs.Rules.{IsExtent, Obeys, ShareBlock, ExtentShares, NameForm, NameFresh}
 use Rattle.bd_image.specs.Volumes.{inode_at}
 use Rattle.bd_image.proofs.Names.{name-field}
@@ -91,7 +92,7 @@ times_at b x j e = times x (range_with_len (extent_at b j e).start (extent_at b 
 
 -- how often block x is in the blocks of record j
 abbrev times_in : List ℕ → ℕ → ℕ → ℕ
-times_in b x j = times x (owned_blocks (inode_at b j))
+times_in b x j = times x (blocks_at (inode_at b j))
 
 times_at-small : (b : List ℕ) (x j e : ℕ) → times_at b x j e ≤ 1
 times_at-small b x j e =
@@ -113,13 +114,13 @@ shared b x i d j e one other =
 -- how often a block is in a record that is used, and in one that is free
 times_in-used : (b : List ℕ) (x j : ℕ) → used_mark b j ≡ 1 → times_in b x j ≡ sum_by (times_at b x j) (range_with_len 0 (extent_count b j))
 times_in-used b x j used =
-    ap (λ (inode : Option Inode). times x (owned_blocks inode))
+    ap (λ (inode : Option Inode). times x (blocks_at inode))
     (cond-true (eqb (used_mark b j) 1) (Some (file_at b j)) None (eq-eqb (used_mark b j) 1 used))
     ∙ times-blocks_of x (extent_at b j) (extent_count b j) 0
 
 times_in-free : (b : List ℕ) (x j : ℕ) → (used_mark b j ≡ 1 → ⊥) → times_in b x j ≡ 0
 times_in-free b x j free =
-    ap (λ (inode : Option Inode). times x (owned_blocks inode))
+    ap (λ (inode : Option Inode). times x (blocks_at inode))
     (cond-false (eqb (used_mark b j) 1) (Some (file_at b j)) None (ne_eqb (used_mark b j) 1 free))
 
 -- a block of a record is in some extent of it
@@ -146,9 +147,16 @@ times_in-small b x j shares there =
       | inr free ↦ omega (arith, times_in-free b x j free)
     ]
 
-pub owned_once : (b : List ℕ) → Obeys b ExtentShares → AreOwnedOnce (inodes_of b)
+-- how often a block is in the lists of blocks of the volume's files
+times_listed-inodes_of : (b : List ℕ) (x : ℕ) → times_listed (block_lists (inodes_of b)) x ≡ sum_by (times_in b x) (range_with_len 0 (inode_count b))
+times_listed-inodes_of b x =
+    fold-map (λ (a : ℕ) (blocks : List ℕ). a + times x blocks) blocks_at 0 (inodes_of b)
+    ∙ fold-map (λ (a : ℕ) (inode : Option Inode). a + times x (blocks_at inode)) (inode_at b) 0 (range_with_len 0 (inode_count b))
+
+-- no block is in two places of the volume's files
+pub owned_once : (b : List ℕ) → Obeys b ExtentShares → (x : ℕ) → times_listed (block_lists (inodes_of b)) x ≤ 1
 owned_once b shares x =
-    subst (λ (n : ℕ). n ≤ 1) (sym (fold-map (λ (a : ℕ) (inode : Option Inode). a + times x (owned_blocks inode)) (inode_at b) 0 (range_with_len 0 (inode_count b))))
+    subst (λ (n : ℕ). n ≤ 1) (sym (times_listed-inodes_of b x))
     (sum-at_most_one (times_in b x) (inode_count b) 0 (λ j low high. times_in-small b x j shares (omega arith))
     (λ i j low between high one other.
     let (d, here, some) = in_extent b x i (omega arith) one in
@@ -156,7 +164,7 @@ owned_once b shares x =
     shares i d j e here there (inl between) (shared b x i d j e some more)))
 
 -- a file that the volume has is the file of a used record
-file-is : (b : List ℕ) (j : ℕ) (file : Inode) → get_or (inodes_of b) j None ≡ Some file → IsUsed b j × (file_at b j ≡ file)
+pub file-is : (b : List ℕ) (j : ℕ) (file : Inode) → get_or (inodes_of b) j None ≡ Some file → IsUsed b j × (file_at b j ≡ file)
 file-is b j file h =
     elim (cases_lt j (inode_count b)) [
       | inl there ↦
@@ -169,7 +177,8 @@ file-is b j file h =
           absurd (none-some file (sym none ∙ h))
     ]
 
-pub own_names : (b : List ℕ) → Obeys b NameForm → Obeys b NameFresh → HaveOwnNames (inodes_of b)
+-- no two files of the volume have one name
+pub own_names : (b : List ℕ) → Obeys b NameForm → Obeys b NameFresh → (i j : ℕ) (file other : Inode) → get_or (inodes_of b) i None ≡ Some file → get_or (inodes_of b) j None ≡ Some other → file.name ≡ other.name → i ≡ j
 own_names b form fresh i j file other at at' same =
     let (used, is) = file-is b i file at in
     let (used', is') = file-is b j other at' in

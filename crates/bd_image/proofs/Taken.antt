@@ -1,13 +1,14 @@
 -- The blocks that the volume of an image has as taken are those that the image has as taken.
-use Rattle.std.proofs.Common.{◌≡◌, ◌<◌, ◌+◌, ◌↔◌, inl, inr, ℕ, Bool, true, false, cond, eqb, ltb, ◌||◌, List, Option, Some, None, length, map, get_or, refl, ap, sym, ◌∙◌, arith}
-use Rattle.std.proofs.lemmas.Bool.{eq-eqb, eqb-true, false≢true, lt-ltb, ltb-true, or_cases, or_left}
+use Rattle.std.proofs.Common.{◌≡◌, ◌<◌, ◌+◌, ◌↔◌, inl, inr, ℕ, Bool, true, false, cond, eqb, ltb, List, Option, Some, None, length, map, get_or, refl, ap, sym, ◌∙◌, arith}
+use Rattle.std.proofs.lemmas.Bool.{eq-eqb, eqb-true, false≢true, lt-ltb, ltb-true, or_cases, or_left, or_right}
 use Rattle.std.proofs.lemmas.List.{get_or_default}
 use Rattle.std.proofs.lemmas.List.Folds.{Any-from_list_any, list_any-from_Any, list_any_at}
 use Rattle.std.proofs.lemmas.List.FromFn.{get_or-map-range_with_len, length-map-range_with_len}
 use Rattle.std.specs.List.{Contains, list_any, range_with_len}
 use Rattle.std.specs.Bool.{IsTrue}
 use Rattle.bd_base.specs.declared.volume.Inode.{Inode}
-use Rattle.bd_image.specs.Layout.{blocks_at, data_start, inode_count, name_at, owner_at, perms_at, size_at, used_mark}
+use Rattle.bd_base.specs.Files.{data_start}
+use Rattle.bd_image.specs.Layout.{blocks_at, inode_count, name_at, owner_at, perms_at, size_at, used_mark}
 use Rattle.bd_image.specs.Rules.{IsTaken}
 use Rattle.bd_image.specs.Volumes.{inode_at, is_taken, owns_block}
 
@@ -18,11 +19,6 @@ file_at b j = record { name = name_at b j; owner = owner_at b j; perms = perms_a
 -- the files of the volume that an image says
 abbrev pub inodes_of : List ℕ → List (Option Inode)
 inodes_of b = map (inode_at b) (range_with_len 0 (inode_count b))
-
--- the right side of an `or`
-or_right : (x y : Bool) → y ≡ true → (x || y) ≡ true
-or_right true y h = refl
-or_right false y h = h
 
 pub Contains-from_any : (xs : List ℕ) (x : ℕ) → list_any (eqb x) xs ≡ true → Contains xs x
 Contains-from_any xs x h =

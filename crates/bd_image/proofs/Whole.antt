@@ -5,7 +5,8 @@ use Rattle.std.specs.List.{flat_map}
 use Rattle.bd_base.specs.declared.volume.Inode.{Inode}
 use Rattle.bd_base.specs.declared.volume.Volume.{Volume}
 use Rattle.bd_base.specs.Bytes.{AreBytes}
-use Rattle.bd_image.specs.Layout.{block_count, data_start, inode_count}
+use Rattle.bd_base.specs.Files.{data_start}
+use Rattle.bd_image.specs.Layout.{block_count, inode_count}
 use Rattle.bd_image.specs.Rules.{Accepted, Bitmap, ExtentCount, ExtentJoins, ExtentRange, FreeRecord, HeaderRest, InodeCount, Length, Magic, NameForm, RecordRest, UsedMark, Version}
 use Rattle.bd_image.specs.Volumes.{AcceptedVolume, bitmap_bytes, header_bytes, image_of, record_bytes, volume_of}
 use Rattle.bd_image.proofs.Bitmap.{bitmap-part}

@@ -26,10 +26,6 @@ block_count b = number_at 4 b LENGTH_PLACE
 abbrev pub inode_count : List ℕ → ℕ
 inode_count b = number_at 4 b INODES_PLACE
 
--- the first data block of an image with this many records
-abbrev pub data_start : ℕ → ℕ
-data_start inodes = 2 + inodes / 16
-
 -- the place of record j
 abbrev pub record_place : ℕ → ℕ
 record_place j = RECORDS_PLACE + RECORD_BYTES * j

@@ -1,10 +1,11 @@
 -- The nineteen rules of an image, in their order, and where each is broken.
-use Rattle.std.specs.Prelude.{◌≡◌, ◌≢◌, ◌⊎◌, ◌↔◌, ℕ, ◌+◌, ◌-◌, ◌*◌, ◌/◌, ◌%◌, ◌<◌, ◌≤◌, min, IsTrue, List, [], ◌∷◌, ◌++◌, length, take, replicate, All, Contains, codes}
-use Rattle.bd_base.specs.declared.limits.TheConstants.{BLOCK_SIZE, FILE_SIZE, NAME_SIZE}
+use Rattle.std.specs.Prelude.{◌≡◌, ◌≢◌, ◌⊎◌, ◌↔◌, ℕ, ◌+◌, ◌-◌, ◌*◌, ◌/◌, ◌%◌, ◌<◌, ◌≤◌, min, IsTrue, List, [], ◌∷◌, ◌++◌, length, take, replicate, Contains, codes}
+use Rattle.bd_base.specs.declared.limits.TheConstants.{BLOCK_SIZE, FILE_SIZE}
 use Rattle.bd_base.specs.declared.volume.Extent.{Extent}
-use Rattle.bd_base.specs.Files.{blocks_for}
+use Rattle.bd_base.specs.Files.{blocks_for, data_start}
+use Rattle.bd_base.specs.Names.{IsName}
 use Rattle.bd_image.specs.declared.layout.TheConstants.{BITMAP_PLACE, EXTENT_BYTES, EXTENTS_FIELD, HEADER_BYTES, INODES_PLACE, LEAST_INODES, LEAST_LENGTH, LENGTH_PLACE, MOST_EXTENTS, MOST_INODES, MOST_LENGTH, NAME_FIELD, RECORD_BYTES, SIZE_FIELD, VERSION, VERSION_PLACE}
-use Rattle.bd_image.specs.Layout.{IsUsed, block_count, blocks_at, byte_at, data_start, extent_at, extent_count, extent_place, inode_count, is_marked, name_field, perms_at, record_place, size_at, used_mark, version}
+use Rattle.bd_image.specs.Layout.{IsUsed, block_count, blocks_at, byte_at, extent_at, extent_count, extent_place, inode_count, is_marked, name_field, perms_at, record_place, size_at, used_mark, version}
 
 -- the rules by what each is about
 pub data Rule : Type 0 where
@@ -66,16 +67,6 @@ pub record IsInodeCount (m : ℕ) : Type 0 where
 pub record HasRecords (b : List ℕ) : Type 0 where
   pub length_fits : IsLength (length b)
   pub count_fits : IsInodeCount (inode_count b)
-
--- a byte of a name: a to z, 0 to 9, a dot, an underscore or a dash
-abbrev pub IsNameByte : ℕ → Type 0
-IsNameByte c = ((97 ≤ c) × (c ≤ 122)) ⊎ (((48 ≤ c) × (c ≤ 57)) ⊎ ((c ≡ 46) ⊎ ((c ≡ 95) ⊎ (c ≡ 45))))
-
--- 1 to 31 such bytes
-pub record IsName (name : List ℕ) : Type 0 where
-  pub least : 0 < length name
-  pub most : length name ≤ NAME_SIZE
-  pub bytes : All IsNameByte name
 
 -- a name, and zeros up to 32 bytes
 pub record IsNameField (field : List ℕ) : Type 0 where

@@ -1,7 +1,8 @@
 -- Blocks that extents share.
 use Rattle.std.specs.Prelude.{◌≡◌, ℕ, ◌+◌, ◌<◌, ◌≤◌, ◌↔◌, ◌⊎◌, Bool, false, List, length, slice_index_or, Contains, IsTrue}
 use Rattle.bd_base.specs.declared.volume.Extent.{Extent}
-use Rattle.bd_image.specs.Layout.{block_count, blocks_at, data_start, extent_at, extent_count, inode_count, used_mark}
+use Rattle.bd_base.specs.Files.{data_start}
+use Rattle.bd_image.specs.Layout.{block_count, blocks_at, extent_at, extent_count, inode_count, used_mark}
 use Rattle.bd_image.specs.Rules.{IsEarlier, IsExtent, IsTaken, ShareBlock}
 
 -- the block is in the extent

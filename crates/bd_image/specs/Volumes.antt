@@ -8,8 +8,9 @@ use Rattle.bd_base.specs.declared.volume.Inode.{Inode}
 use Rattle.bd_base.specs.declared.volume.Volume.{Volume}
 use Rattle.bd_base.specs.Bytes.{AreBytes}
 use Rattle.bd_base.specs.Extents.{extents_of}
+use Rattle.bd_base.specs.Files.{data_start}
 use Rattle.bd_image.specs.declared.layout.TheConstants.{EXTENT_BYTES, HEADER_BYTES, MOST_EXTENTS, RECORD_BYTES, VERSION}
-use Rattle.bd_image.specs.Layout.{block_count, blocks_at, data_start, inode_count, name_at, owner_at, perms_at, size_at, used_mark}
+use Rattle.bd_image.specs.Layout.{block_count, blocks_at, inode_count, name_at, owner_at, perms_at, size_at, used_mark}
 use Rattle.bd_image.specs.Rules.{Accepted}
 
 -- the file that record j says, None where the record is free

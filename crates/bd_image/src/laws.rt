@@ -23,7 +23,7 @@ pub fn one_volume()
     ensures says { (v : Volume) → AcceptedVolume v → volume_of (image_of v) ≡ v }
 {}
 
-/// An accepted volume is within the limits of an image.
+/// An accepted volume has the bytes of all its blocks, and its files are files of an image.
 pub fn volume_within_limits()
     ensures { (v : Volume) → AcceptedVolume v → IsWithinLimits v }
 {}

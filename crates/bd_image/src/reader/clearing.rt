@@ -1,6 +1,7 @@
 //! The bytes of a volume: those of its image, with zeros for the metadata.
 ghost use Rattle.std.specs.Prelude.{◌≡◌, ℕ, ◌*◌, ◌≤◌, ◌++◌, drop, length, replicate};
-ghost use Rattle.bd_image.specs.Layout.{data_start, inode_count};
+ghost use Rattle.bd_base.specs.Files.{data_start};
+ghost use Rattle.bd_image.specs.Layout.{inode_count};
 ghost use Rattle.bd_image.specs.Rules.{HasRecords};
 
 use crate::reader::extents::data_start;

@@ -1,7 +1,8 @@
 //! The rules of each file's extents, and of its size in blocks.
 ghost use Rattle.std.specs.Prelude.{◌≡◌, ◌≢◌, ℕ, ◌+◌, ◌*◌, ◌<◌, ◌≤◌, length, MatchOption, IsTrue, ◌↔◌};
+ghost use Rattle.bd_base.specs.Files.{data_start};
 ghost use Rattle.bd_image.specs.Checks.{HasNoJoin, IsFirstFault, IsFirstJoin, IsInside};
-ghost use Rattle.bd_image.specs.Layout.{block_count, blocks_at, data_start, extent_at, extent_count, inode_count, used_mark};
+ghost use Rattle.bd_image.specs.Layout.{block_count, blocks_at, extent_at, extent_count, inode_count, used_mark};
 ghost use Rattle.bd_image.specs.Rules.{BlockCount, ExtentCount, ExtentJoins, ExtentRange, HasRecords, IsInDataArea, IsLeastBreak, Obeys, Size};
 
 use crate::layout::SIZE_FIELD;

@@ -1,8 +1,9 @@
 //! The rules of names.
 ghost use Rattle.std.specs.Prelude.{◌≡◌, ◌≢◌, ℕ, ◌+◌, ◌*◌, ◌<◌, ◌≤◌, ◌↔◌, length, slice_index, IsTrue, MatchOption};
+ghost use Rattle.bd_base.specs.Names.{IsNameByte};
 ghost use Rattle.bd_image.specs.Checks.{ZeroesFrom};
 ghost use Rattle.bd_image.specs.Layout.{inode_count, used_mark};
-ghost use Rattle.bd_image.specs.Rules.{HasRecords, IsLeastBreak, IsNameByte, IsNameField, NameForm, Obeys};
+ghost use Rattle.bd_image.specs.Rules.{HasRecords, IsLeastBreak, IsNameField, NameForm, Obeys};
 
 use crate::layout::NAME_FIELD;
 use crate::reader::fields::{inode_count, is_used, name_field, record_place};

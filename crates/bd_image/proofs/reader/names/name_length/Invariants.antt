@@ -1,5 +1,5 @@
 use Rattle.std.proofs.Common.{◌<◌, ℕ, slice_index}
-use Rattle.bd_image.specs.Rules.{IsNameByte}
+use Rattle.bd_base.specs.Names.{IsNameByte}
 use Rattle.bd_image.proofs.reader.names.name_length.Given as goal
 
 abbrev pub invariant-loop-k : goal.invariant-loop-k

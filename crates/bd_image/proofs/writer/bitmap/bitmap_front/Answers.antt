@@ -4,8 +4,8 @@ use Rattle.std.proofs.lemmas.List.{take_at}
 use Rattle.std.proofs.lemmas.List.Elements.{All-replicate}
 use Rattle.std.specs.List.{list_any, range_with_len}
 use Rattle.bd_base.specs.Bytes.{AreBytes}
+use Rattle.bd_base.specs.Files.{data_start}
 use Rattle.bd_image.specs.Bits.{is_set}
-use Rattle.bd_image.specs.Layout.{data_start}
 use Rattle.bd_image.specs.Volumes.{is_taken, owns_block}
 use Rattle.bd_image.proofs.Bitmap.{any-front, bitmap_front-from_bits, is_set-zeros}
 use Rattle.bd_image.proofs.writer.bitmap.bitmap_front.Goals as goal
