@@ -1,19 +1,20 @@
 -- What was read of an image and of a script.
-use Rattle.std.specs.Prelude.{IfSome, min}
+use Rattle.std.specs.Prelude.{min}
 use Rattle.std.specs.Fmt.{decimal}
 use Rattle.std.proofs.Common.{◌≡◌, ℕ, ◌+◌, ◌<◌, ◌≤◌, List, Option, None, Some, get_or, length, length-append, refl, ap, subst, arith}
 use Rattle.std.proofs.lemmas.Fmt.{length-decimal-le}
-use Rattle.std.proofs.lemmas.Option.{get_or_from_slice_get, slice_get_within}
-use Rattle.bd_base.specs.declared.volume.Inode.{Inode}
+use Rattle.std.proofs.lemmas.Option.{get_or_from_slice_get}
 use Rattle.bd_base.specs.declared.volume.Volume.{Volume}
+use Rattle.bd_base.specs.Inodes.{IsValidFile}
 use Rattle.bd_base.specs.Names.{IsName}
 use Rattle.bd_base.specs.Volumes.{IsVolume}
 use Rattle.bd_outside.specs.Source.{PassesLimit, ReadsAll}
-use Rattle.bd_image.specs.Limits.{IsFile, IsWithinLimits}
+use Rattle.bd_image.specs.Limits.{IsWithinLimits}
 use Rattle.bd_image.specs.Rules.{Broken, Obeys, Rule, Length, Magic, Version, BlockCount, InodeCount, HeaderRest, UsedMark, FreeRecord, Perms, ExtentCount, NameForm, NameFresh, RecordRest, ExtentRange, ExtentJoins, ExtentShares, Size, TailZero, Bitmap, rule_number}
 use Rattle.bd_machine.specs.Refusals.{IsNotSimple}
 use Rattle.bd_machine.specs.Simple.{Grants, simple_text}
-use Rattle.bd_top.specs.Causes.{ForTold}
+use Rattle.bd_top.specs.Outside.{ForTold}
+use Rattle.bd_top.proofs.Counting.{within_area}
 
 -- a fact about the bytes that were read is one about those that were left
 pub told : (left new : Option (List ℕ)) (bytes : List ℕ) (P : List ℕ → Type 0) → ReadsAll left new bytes → P bytes → ForTold left P
@@ -66,14 +67,12 @@ too_long b long =
 pub volume_for_machine : (v : Volume) → IsWithinLimits v → IsVolume v
 volume_for_machine v within =
     record {
-      total = within.most;
+      total = within.files.valid.few_blocks;
       bytes = within.bytes;
-      inodes = within.records.most;
+      inodes = within.files.valid.few_files;
       files = λ id f at.
-          let inside : id < length v.inodes = slice_get_within v.inodes id (Some f) at in
-          let is : IfSome (get_or v.inodes id None) (IsFile v.total (length v.inodes)) = within.files id None inside in
-          let file : IsFile v.total (length v.inodes) f = subst (λ (slot : Option Inode). IfSome slot (IsFile v.total (length v.inodes))) (get_or_from_slice_get v.inodes id (Some f) None at) is in
-          record { size = file.size; blocks = file.as_many; below_end = λ k d lt. (file.in_data_area k d lt).1 };
+          let file : IsValidFile v.total (length v.inodes) f = within.files.valid.each id f (get_or_from_slice_get v.inodes id (Some f) None at) in
+          record { size = file.size_in_range; blocks = file.enough_blocks; below_end = λ k d lt. (within_area v.total (length v.inodes) (get_or f.blocks k d) (file.in_data_area k d lt)).1 };
     }
 
 -- a script that is too long is not simple

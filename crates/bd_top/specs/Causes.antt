@@ -1,100 +1,139 @@
--- Why a command ends as it does, and what a whole run has done.
+-- What each end of a command means: why it came, what was run, and what was written.
 use Rattle.std.specs.Prelude.{◌≡◌, ◌⊎◌, ℕ, List, [], Option, None, Some}
-use Rattle.std.specs.Io.KnownBytes.{Appends}
 use Rattle.bd_base.specs.declared.script.Script.{Script}
 use Rattle.bd_base.specs.declared.volume.Volume.{Volume}
-use Rattle.bd_outside.specs.Faults.{Rose}
-use Rattle.bd_outside.specs.Sink.{AppendsPrefix}
 use Rattle.bd_image.specs.Rules.{Accepted, Broken}
-use Rattle.bd_image.specs.Volumes.{AcceptedVolume, image_of, volume_of}
-use Rattle.bd_machine.specs.declared.entry.Entry.{Entry}
-use Rattle.bd_machine.specs.declared.turn.Event.{Event}
-use Rattle.bd_machine.specs.Course.{IsCourse, visible}
-use Rattle.bd_machine.specs.History.{InOrder, Legal}
-use Rattle.bd_machine.specs.Machine.{State, boot_state, volume_in}
+use Rattle.bd_image.specs.Volumes.{volume_of}
 use Rattle.bd_machine.specs.Refusals.{IsNotSimple}
-use Rattle.bd_machine.specs.Simple.{IsSimple, IsSimpleText}
-use Rattle.bd_machine.specs.Store.{Store, start_store}
+use Rattle.bd_machine.specs.Simple.{IsSimpleText}
 use Rattle.bd_top.specs.declared.status.Outcome.{Outcome}
 use Rattle.bd_top.specs.declared.status.Status.{Status}
-use Rattle.bd_top.specs.declared.status.Status.TheVariants.{Done, ReadFault, WriteFault, BadImage, BadScript, OutOfMemory}
+use Rattle.bd_top.specs.declared.status.Status.TheVariants.{Done, Usage, ReadFault, WriteFault, BadImage, BadScript, OutOfMemory}
 use Rattle.bd_top.specs.declared.status.To.TheVariants.{Out, Disk}
 use Rattle.bd_top.specs.declared.status.Which.TheVariants.{Image, Script as Script_}
-use Rattle.bd_top.specs.Report.{report_text}
+use Rattle.bd_top.specs.declared.words.Command.{Command}
+use Rattle.bd_top.specs.declared.words.Command.TheVariants.{Check, Replay}
+use Rattle.bd_top.specs.Outside.{ForTold, ReadFailed, Reading, WriteFailed, Writing, Wrote, WroteNothing, WrotePrefix}
+use Rattle.bd_top.specs.Runs.{IsImageRead, IsReplay}
+use Rattle.bd_top.specs.Totals.{check_line}
 
--- a fact about the bytes that a source had left, where it told them
-abbrev pub ForTold : Option (List ℕ) → (List ℕ → Type 0) → Type 0
-ForTold None P = Unit {0}
-ForTold (Some bytes) P = P bytes
+-- ---- replay
 
--- the volume is the one that the image says which was left
-abbrev pub IsImageRead : Option (List ℕ) → Volume → Type 0
-IsImageRead left v = AcceptedVolume v × ForTold left (λ b. Accepted b × (v ≡ volume_of b))
+-- there was no run, and nothing was written
+pub record NothingDone (out disk : Writing) (outcome : Outcome) : Type 0 where
+  pub out_same : WroteNothing out
+  pub disk_same : WroteNothing disk
+  pub no_journal : outcome.journal ≡ []
+  pub no_trace : outcome.trace ≡ []
 
--- why no volume was read: a read failed, the image breaks a rule, or no memory was found
-abbrev pub ImageRefusal : Option ℕ → Option (List ℕ) → ℕ → ℕ → Status → Type 0
-ImageRefusal last left before after (ReadFault Image) = Rose last before after
-ImageRefusal last left before after (BadImage rule place) = ForTold left (λ b. Broken b rule place)
-ImageRefusal last left before after OutOfMemory = Unit {0}
-ImageRefusal last left before after status = ⊥
+-- the script was run, and a fact about its report and the image that it leaves
+abbrev pub Replayed : Reading → Reading → Outcome → (List ℕ → List ℕ → Type 0) → Type 0
+Replayed image script outcome Fact =
+    (report : List ℕ) × (final : List ℕ) × IsReplay image.left script.left outcome.journal outcome.trace report final × Fact report final
 
--- the script is the one whose text was left, and is simple for the volume
-abbrev pub IsScriptRead : Volume → Option (List ℕ) → Script → Type 0
-IsScriptRead v left script = IsSimple v script × ForTold left (λ text. IsSimpleText v text script)
+-- what it means that a replay ended with this status: nothing goes to disk before the whole report is out
+abbrev pub ReplayEnd : Reading → Reading → Writing → Writing → Outcome → Status → Type 0
+ReplayEnd image script out disk outcome Done = Replayed image script outcome (λ report final. Wrote out report × Wrote disk final)
+ReplayEnd image script out disk outcome Usage = ⊥
+ReplayEnd image script out disk outcome (ReadFault Image) = ReadFailed image × NothingDone out disk outcome
+ReplayEnd image script out disk outcome (ReadFault Script_) = ReadFailed script × NothingDone out disk outcome × ((v : Volume) × IsImageRead image.left v)
+ReplayEnd image script out disk outcome (BadImage rule place) = ForTold image.left (λ b. Broken b rule place) × NothingDone out disk outcome
+ReplayEnd image script out disk outcome (BadScript line rule) =
+    (line ≡ 0) × (rule ≡ 0) × NothingDone out disk outcome × ((v : Volume) × IsImageRead image.left v × ForTold script.left (IsNotSimple v))
+ReplayEnd image script out disk outcome (WriteFault Out) =
+    Replayed image script outcome (λ report final. WriteFailed out × WrotePrefix out report × WroteNothing disk)
+ReplayEnd image script out disk outcome (WriteFault Disk) =
+    Replayed image script outcome (λ report final. WriteFailed disk × Wrote out report × WrotePrefix disk final)
+ReplayEnd image script out disk outcome OutOfMemory =
+    NothingDone out disk outcome
+    ⊎ Replayed image script outcome (λ report final. (WrotePrefix out report × WroteNothing disk) ⊎ (Wrote out report × WrotePrefix disk final))
 
--- why no script was read: a read failed, the text is not simple for the volume, or no memory was found
-abbrev pub ScriptRefusal : Volume → Option ℕ → Option (List ℕ) → ℕ → ℕ → Status → Type 0
-ScriptRefusal v last left before after (ReadFault Script_) = Rose last before after
-ScriptRefusal v last left before after (BadScript line rule) = (line ≡ 0) × (rule ≡ 0) × ForTold left (IsNotSimple v)
-ScriptRefusal v last left before after OutOfMemory = Unit {0}
-ScriptRefusal v last left before after status = ⊥
+-- the outcome of a replay means what its status says
+abbrev pub ReplayAnswer : Reading → Reading → Writing → Writing → Outcome → Type 0
+ReplayAnswer image script out disk outcome = ReplayEnd image script out disk outcome outcome.status
 
--- a whole run of the script over the volume: the journal is one legal history from the volume's store to the store whose image is written
-pub record IsRun (v : Volume) (script : Script) (journal : List Entry) (trace : List Event) (report image : List ℕ) : Type 0 where
-  pub store : Store
-  pub legal : Legal script (start_store v script) journal store
-  pub in_order : InOrder script journal
-  pub state : State
-  pub course : IsCourse (start_store v script) script trace state
-  pub journal_is : state.journal ≡ journal
-  pub store_is : state.store ≡ store
-  pub shown : visible (boot_state (start_store v script) script) trace ≡ journal
-  pub image_is : image ≡ image_of (volume_in store)
-  pub accepted : Accepted image
-  pub report_is : report ≡ report_text script journal
+-- ---- check
 
--- what a replay of this image and this script has done
-pub record IsReplay (image_left script_left : Option (List ℕ)) (journal : List Entry) (trace : List Event) (report image : List ℕ) : Type 0 where
-  pub volume : Volume
-  pub script : Script
-  pub image_read : IsImageRead image_left volume
-  pub script_read : IsScriptRead volume script_left script
-  pub run : IsRun volume script journal trace report image
+-- the image was read, and a fact about the line that tells of it
+abbrev pub Checked : Reading → (List ℕ → Type 0) → Type 0
+Checked image Fact = (v : Volume) × IsImageRead image.left v × Fact (check_line v)
 
--- how the report and then the image were written: nothing goes to disk before the whole report is out, and after an error the first bytes are there
-abbrev pub WriteAnswer : Option ℕ → ℕ → ℕ → Option ℕ → ℕ → ℕ → Option (List ℕ) → Option (List ℕ) → Option (List ℕ) → Option (List ℕ) → List ℕ → List ℕ → Status → Type 0
-WriteAnswer out_last o0 o1 disk_last d0 d1 out_old out_new disk_old disk_new report image Done =
-    Appends out_old out_new report × Appends disk_old disk_new image
-WriteAnswer out_last o0 o1 disk_last d0 d1 out_old out_new disk_old disk_new report image (WriteFault Out) =
-    Rose out_last o0 o1 × AppendsPrefix out_old out_new report × (disk_new ≡ disk_old)
-WriteAnswer out_last o0 o1 disk_last d0 d1 out_old out_new disk_old disk_new report image (WriteFault Disk) =
-    Rose disk_last d0 d1 × Appends out_old out_new report × AppendsPrefix disk_old disk_new image
-WriteAnswer out_last o0 o1 disk_last d0 d1 out_old out_new disk_old disk_new report image OutOfMemory =
-    (AppendsPrefix out_old out_new report × (disk_new ≡ disk_old)) ⊎ (Appends out_old out_new report × AppendsPrefix disk_old disk_new image)
-WriteAnswer out_last o0 o1 disk_last d0 d1 out_old out_new disk_old disk_new report image status = ⊥
+-- what it means that a check ended with this status
+abbrev pub CheckEnd : Reading → Writing → Status → Type 0
+CheckEnd image out Done = Checked image (Wrote out)
+CheckEnd image out (ReadFault Image) = ReadFailed image × WroteNothing out
+CheckEnd image out (BadImage rule place) = ForTold image.left (λ b. Broken b rule place) × WroteNothing out
+CheckEnd image out (WriteFault Out) = Checked image (λ line. WriteFailed out × WrotePrefix out line)
+CheckEnd image out OutOfMemory = WroteNothing out ⊎ Checked image (WrotePrefix out)
+CheckEnd image out status = ⊥
 
--- why no run was made: of the image, or, where that was read, of the script
-abbrev pub ReplayRefusal : Option ℕ → Option (List ℕ) → ℕ → ℕ → Option ℕ → Option (List ℕ) → ℕ → ℕ → Status → Type 0
-ReplayRefusal image_last image_left i0 i1 script_last script_left s0 s1 status =
-    ImageRefusal image_last image_left i0 i1 status
-    ⊎ ((v : Volume) × IsImageRead image_left v × ScriptRefusal v script_last script_left s0 s1 status)
+-- ---- all commands
 
--- an outcome of a replay: it was refused and nothing was written, or the run was made and written so
-abbrev pub ReplayAnswer : Option ℕ → Option (List ℕ) → ℕ → ℕ → Option ℕ → Option (List ℕ) → ℕ → ℕ → Type 0 → (List ℕ → List ℕ → Type 0) → Outcome → Type 0
-ReplayAnswer image_last image_left i0 i1 script_last script_left s0 s1 Same Written outcome =
-    (ReplayRefusal image_last image_left i0 i1 script_last script_left s0 s1 outcome.status × Same × (outcome.journal ≡ []) × (outcome.trace ≡ []))
-    ⊎ ((report : List ℕ) × (image : List ℕ) × IsReplay image_left script_left outcome.journal outcome.trace report image × Written report image)
+-- the outcome of a check: there is no run, and nothing goes to disk
+pub record CheckAnswer (image : Reading) (out disk : Writing) (outcome : Outcome) : Type 0 where
+  pub ended : CheckEnd image out outcome.status
+  pub disk_same : WroteNothing disk
+  pub no_journal : outcome.journal ≡ []
+  pub no_trace : outcome.trace ≡ []
 
--- both sinks hold what they held
-abbrev pub SameSink : Option (List ℕ) → Option (List ℕ) → Option (List ℕ) → Option (List ℕ) → Type 0
-SameSink out_old out_new disk_old disk_new = (out_new ≡ out_old) × (disk_new ≡ disk_old)
+-- the outcome of the command that the words say, of Usage where they say none
+abbrev pub Answer : Option Command → Reading → Reading → Writing → Writing → Outcome → Type 0
+Answer None image script out disk outcome = (outcome.status ≡ Usage) × NothingDone out disk outcome
+Answer (Some Replay) image script out disk outcome = ReplayAnswer image script out disk outcome
+Answer (Some Check) image script out disk outcome = CheckAnswer image out disk outcome
+
+-- an image that breaks a rule is refused with the least rule and its least place, where it is read and memory is found
+abbrev pub RefusesImage : Reading → Status → Type 0
+RefusesImage image status =
+    (b : List ℕ) (rule place : ℕ) → image.left ≡ Some b → Broken b rule place →
+    (status ≡ BadImage rule place) ⊎ ((status ≡ ReadFault Image) ⊎ (status ≡ OutOfMemory))
+
+-- a text that is not simple for the volume of the accepted image is refused, where both are read and memory is found
+abbrev pub RefusesScript : Reading → Reading → Status → Type 0
+RefusesScript image script status =
+    (b text : List ℕ) → image.left ≡ Some b → script.left ≡ Some text → Accepted b → IsNotSimple (volume_of b) text →
+    (status ≡ BadScript 0 0) ⊎ ((status ≡ ReadFault Image) ⊎ ((status ≡ ReadFault Script_) ⊎ (status ≡ OutOfMemory)))
+
+-- the image is accepted, the text is simple for its volume, and no read and no write failed
+pub record CanReplay (image script : Reading) (out disk : Writing) : Type 0 where
+  pub bytes : List ℕ
+  pub text : List ℕ
+  pub simple : Script
+  pub image_left : image.left ≡ Some bytes
+  pub script_left : script.left ≡ Some text
+  pub accepted : Accepted bytes
+  pub is_simple : IsSimpleText (volume_of bytes) text simple
+  pub image_reads : ReadFailed image → ⊥
+  pub script_reads : ReadFailed script → ⊥
+  pub out_writes : WriteFailed out → ⊥
+  pub disk_writes : WriteFailed disk → ⊥
+
+-- the image is accepted, and no read and no write failed
+pub record CanCheck (image : Reading) (out : Writing) : Type 0 where
+  pub bytes : List ℕ
+  pub image_left : image.left ≡ Some bytes
+  pub accepted : Accepted bytes
+  pub image_reads : ReadFailed image → ⊥
+  pub out_writes : WriteFailed out → ⊥
+
+-- the command ended as it should, or no memory was found
+abbrev pub IsDone : Status → Type 0
+IsDone status = (status ≡ Done) ⊎ (status ≡ OutOfMemory)
+
+-- ---- by the command that the words say
+
+-- a command that reads an image refuses a bad one
+abbrev pub RefusesImages : Option Command → Reading → Status → Type 0
+RefusesImages None image status = Unit {0}
+RefusesImages (Some command) image status = RefusesImage image status
+
+-- a replay refuses a bad script
+abbrev pub RefusesScripts : Option Command → Reading → Reading → Status → Type 0
+RefusesScripts (Some Replay) image script status = RefusesScript image script status
+RefusesScripts command image script status = Unit {0}
+
+-- good input and calls that do not fail let the command end as it should
+abbrev pub Completes : Option Command → Reading → Reading → Writing → Writing → Status → Type 0
+Completes None image script out disk status = Unit {0}
+Completes (Some Replay) image script out disk status = CanReplay image script out disk → IsDone status
+Completes (Some Check) image script out disk status = CanCheck image out → IsDone status

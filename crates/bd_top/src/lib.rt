@@ -1,12 +1,17 @@
 //! The commands: what each reads, does and writes.
 #![tactic(auto)]
 
+mod check;
+mod inputs;
+mod program;
 mod replay;
 mod report;
 mod status;
 mod text;
 mod words;
 
+pub use check::check_all;
+pub use program::top;
 pub use replay::replay_all;
 pub use status::{Outcome, Status, To, Which, code, fault_text};
 pub use words::{Command, read_words};

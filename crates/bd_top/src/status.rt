@@ -1,5 +1,5 @@
 //! How a command ends, the exit code of each end, and its line of text.
-ghost use Rattle.std.specs.Prelude.{◌≡◌, ◌++◌, IfOk, OnOk};
+ghost use Rattle.std.specs.Prelude.{◌≡◌, [], ◌++◌, IfOk, OnOk};
 ghost use Rattle.bd_top.specs.Status.{bad_image_text, bad_script_text, code_of, fault_text_of};
 
 use crate::text::{push, push_number};
@@ -48,6 +48,17 @@ pub struct Outcome {
     pub journal: EntryList,
     /// Empty after a status before the run.
     pub trace: EventList,
+}
+
+/// An outcome before a run.
+pub(crate) fn without_run(alloc: Global, status: Status) -> Outcome
+    ensures { result ≡ record { status = status; journal = []; trace = [] } }
+{
+    Outcome {
+        status,
+        journal: List::new(alloc),
+        trace: List::new(alloc),
+    }
 }
 
 /// The exit code of a status.

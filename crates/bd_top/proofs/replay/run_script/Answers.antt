@@ -10,7 +10,11 @@ use Rattle.bd_machine.specs.Machine.{boot_state}
 use Rattle.bd_machine.specs.Running.{Progress}
 use Rattle.bd_machine.specs.Store.{start_store}
 use Rattle.bd_top.specs.Report.{report_text}
+use Rattle.bd_top.proofs.Reading.{volume_for_machine}
 use Rattle.bd_top.proofs.replay.run_script.Goals as goal
+
+pub replay-requires-clause-volume : goal.replay-requires-clause-volume
+replay-requires-clause-volume c = volume_for_machine c.args.volume (c.volume_within_limits.ensures c.args.volume c.requires.volume)
 
 pub returns : goal.returns
 returns c =

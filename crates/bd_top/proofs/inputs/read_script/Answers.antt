@@ -4,7 +4,7 @@ use Rattle.bd_machine.specs.declared.error.ScriptError.TheVariants.{BadScript}
 use Rattle.bd_machine.specs.Refusals.{IsNotSimple, RefusesText}
 use Rattle.bd_machine.specs.Simple.{IsSimpleText}
 use Rattle.bd_top.proofs.Reading.{told, told_long, too_long_script, volume_for_machine}
-use Rattle.bd_top.proofs.replay.read_script.Goals as goal
+use Rattle.bd_top.proofs.inputs.read_script.Goals as goal
 
 pub returns-in-Err-TooLong-clause-err : goal.returns-in-Err-TooLong-clause-err
 returns-in-Err-TooLong-clause-err g c =

@@ -3,7 +3,7 @@ use Rattle.bd_outside.specs.declared.whole.ReadError.{ReadError}
 use Rattle.bd_image.specs.Refusals.{IsRefusal}
 use Rattle.bd_image.specs.Rules.{Broken}
 use Rattle.bd_top.proofs.Reading.{told, told_long, too_long}
-use Rattle.bd_top.proofs.replay.read_image.Goals as goal
+use Rattle.bd_top.proofs.inputs.read_image.Goals as goal
 
 pub returns-in-Err-TooLong-clause-err : goal.returns-in-Err-TooLong-clause-err
 returns-in-Err-TooLong-clause-err g c =

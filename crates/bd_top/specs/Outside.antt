@@ -1,0 +1,53 @@
+-- Sources and sinks around a call: what was there before it, and whether a read or a write of it failed.
+use Rattle.std.specs.Prelude.{◌≡◌, ℕ, List, Option, None, Some}
+use Rattle.std.specs.Io.KnownBytes.{Appends}
+use Rattle.bd_outside.specs.Faults.{Rose}
+use Rattle.bd_outside.specs.Sink.{AppendsPrefix}
+
+-- a source around a call: the bytes that it had left before, where it tells them, and its count of faults before and after
+pub record Reading : Type 0 where
+  pub left : Option (List ℕ)
+  pub last_fault : Option ℕ
+  pub before : ℕ
+  pub after : ℕ
+
+-- a sink around a call: what it held before and holds after, where it tells that, and its count of faults before and after
+pub record Writing : Type 0 where
+  pub held : Option (List ℕ)
+  pub holds : Option (List ℕ)
+  pub last_fault : Option ℕ
+  pub before : ℕ
+  pub after : ℕ
+
+-- the call on a source of these meanings that was old and is new
+abbrev pub reading : {A : Type 0} → (A → Option (List ℕ)) → (A → ℕ) → Option ℕ → A → A → Reading
+reading left faults last old new = record { left = left old; last_fault = last; before = faults old; after = faults new }
+
+-- the call on a sink of these meanings that was old and is new
+abbrev pub writing : {A : Type 0} → (A → Option (List ℕ)) → (A → ℕ) → Option ℕ → A → A → Writing
+writing held faults last old new = record { held = held old; holds = held new; last_fault = last; before = faults old; after = faults new }
+
+-- a fact about the bytes that a source had left, where it told them
+abbrev pub ForTold : Option (List ℕ) → (List ℕ → Type 0) → Type 0
+ForTold None P = Unit {0}
+ForTold (Some bytes) P = P bytes
+
+-- a read failed in the call
+abbrev pub ReadFailed : Reading → Type 0
+ReadFailed source = Rose source.last_fault source.before source.after
+
+-- a write failed in the call
+abbrev pub WriteFailed : Writing → Type 0
+WriteFailed sink = Rose sink.last_fault sink.before sink.after
+
+-- all these bytes were written
+abbrev pub Wrote : Writing → List ℕ → Type 0
+Wrote sink bytes = Appends sink.held sink.holds bytes
+
+-- some first bytes of these were written
+abbrev pub WrotePrefix : Writing → List ℕ → Type 0
+WrotePrefix sink bytes = AppendsPrefix sink.held sink.holds bytes
+
+-- nothing was written
+abbrev pub WroteNothing : Writing → Type 0
+WroteNothing sink = sink.holds ≡ sink.held
