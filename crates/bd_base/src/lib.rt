@@ -22,3 +22,6 @@ pub use script::{
     Script,
 };
 pub use volume::{BlockList, Extent, ExtentList, Inode, InodeList, Name, Volume};
+
+#[cfg(test)]
+mod tests;

@@ -1,0 +1,89 @@
+//! Numbers, lists and copies of volumes, through the public calls.
+use crate::{Actor, BlockNo, Fd, FileId, Inode, InodeList, List, Part, Pid, Range, Vba, Volume};
+use std::alloc::Global;
+use std::test::Fail;
+
+#[test]
+fn numbers_come_back(rt: HostRuntime) {
+    assert_eq!(rt; Pid::new(15).map(|pid| pid.get()), Some(15));
+    assert_eq!(rt; Fd::new(7).map(|fd| fd.get()), Some(7));
+    assert_eq!(rt; FileId::new(255).map(|file| file.get()), Some(255));
+    assert_eq!(rt; BlockNo::new(16_383).map(|block| block.get()), Some(16_383));
+    assert_eq!(rt; Vba::new(32_767).map(|vba| vba.get()), Some(32_767));
+    assert_eq!(rt; Actor::new(32).map(|actor| actor.get()), Some(32));
+    assert_eq!(rt; Part::new(7).map(|part| part.get()), Some(7));
+    assert_eq!(rt; Range::new(4000, 4096).map(|range| range.count()), Some(96));
+}
+
+#[test]
+fn lists_are_made_and_copied(rt: HostRuntime) -> Result<(), Fail> {
+    let alloc = rt.alloc();
+    let list = List::from_slice(alloc, &[1u64, 2, 3, 4])?;
+    assert_eq!(rt; list.copy()?.as_slice(), [1, 2, 3, 4].as_slice());
+    assert_eq!(rt; list.copy_range(1, 3)?.as_slice(), [2, 3].as_slice());
+    assert!(rt; list.copy_range(4, 4)?.is_empty());
+
+    let mut other = list.emptied();
+    other.push(5)?;
+    assert_eq!(rt; other.as_slice(), [5].as_slice());
+
+    let mut roomy = List::with_capacity(alloc, 3)?;
+    assert!(rt; roomy.is_empty());
+    roomy.push("a word")?;
+    assert_eq!(rt; roomy.as_slice(), ["a word"].as_slice());
+
+    let mut fives = List::from_vec(vec![in alloc; 5u16; 2]?);
+    assert_eq!(rt; fives.len(), 2);
+    assert_eq!(rt;
+        (fives.pop(), fives.pop(), fives.pop()),
+        (Some(5), Some(5), None)
+    );
+    Ok(())
+}
+
+/// A volume of twenty blocks, in which id 1 alone has a file.
+fn volume(alloc: Global) -> Result<Volume, Fail> {
+    let mut blocks = List::new(alloc);
+    for number in [3, 7] {
+        blocks.push(BlockNo::new(number).ok_or("a block")?)?;
+    }
+    let mut inodes: InodeList = List::new(alloc);
+    inodes.push(None)?;
+    inodes.push(Some(Inode {
+        name: List::from_slice(alloc, b"a.b")?,
+        owner: 100,
+        perms: 15,
+        size: 5000,
+        blocks,
+    }))?;
+    Ok(Volume {
+        total: 20,
+        inodes,
+        bytes: List::from_slice(alloc, &[7; 40])?,
+    })
+}
+
+#[test]
+fn a_volume_is_copied_with_its_files(rt: HostRuntime) -> Result<(), Fail> {
+    let volume = volume(rt.alloc())?;
+    let copy = volume.copy()?;
+    assert_eq!(rt; copy.total, 20);
+    assert_eq!(rt; copy.bytes.as_slice(), [7; 40].as_slice());
+    let [None, Some(file)] = copy.inodes.as_slice() else {
+        return Err(Fail::new("other files"));
+    };
+    for file in [file, &file.copy()?] {
+        assert_eq!(rt; file.name.as_slice(), b"a.b".as_slice());
+        assert_eq!(rt; (file.owner, file.perms, file.size), (100, 15, 5000));
+        assert_eq!(rt; file.blocks.len(), 2);
+        assert_eq!(rt;
+            file.blocks.as_slice().first().map(|block| block.get()),
+            Some(3)
+        );
+        assert_eq!(rt;
+            file.blocks.as_slice().last().map(|block| block.get()),
+            Some(7)
+        );
+    }
+    Ok(())
+}
