@@ -124,9 +124,10 @@ fn tells_the_rules_of_the_first_block(rt: HostRuntime) -> Result<(), Fail> {
 
 #[test]
 fn tells_the_rules_of_records(rt: HostRuntime) -> Result<(), Fail> {
-    let cases: [(&[Edit], u8, u64); 11] = [
+    let cases: [(&[Edit], u8, u64); 12] = [
         (&[(8192, &[2])], 7, 8192),
         (&[(12032, &[2]), (8448, &[3])], 7, 8448),
+        (&[(16, &[32])], 7, 12_288),
         (&[(8705, &[1])], 8, 8705),
         (&[(8961, &[1]), (8959, &[1])], 8, 8959),
         (&[(8193, &[16])], 9, 8193),
@@ -150,7 +151,7 @@ fn tells_the_rules_of_records(rt: HostRuntime) -> Result<(), Fail> {
 
 #[test]
 fn tells_the_rules_of_names(rt: HostRuntime) -> Result<(), Fail> {
-    let cases: [(&[Edit], u8, u64); 9] = [
+    let cases: [(&[Edit], u8, u64); 12] = [
         (&[(8208, &[0])], 11, 8208),
         (&[(8208, b"A")], 11, 8208),
         (&[(8208, b"a/b")], 11, 8208),
@@ -158,6 +159,9 @@ fn tells_the_rules_of_names(rt: HostRuntime) -> Result<(), Fail> {
         (&[(8464, b"abcdefghijklmnopqrstuvwxyz012345")], 11, 8464),
         (&[(8464, b"B"), (8208, b"A")], 11, 8208),
         (&[(8464, b"a")], 12, 8464),
+        (&[(8704, b"\x01\x0F"), (8720, b"b")], 12, 8720),
+        (&[(8464, b"a"), (8704, b"\x01\x0F"), (8720, b"a")], 12, 8464),
+        (&[(8464, b"a"), (8704, b"\x01\x0F"), (8720, b"A")], 11, 8720),
         (
             &[(8208, b"abcdefghijklmnopqrstuvwxyz0129."), (8464, b"_-")],
             0,
@@ -178,7 +182,7 @@ fn tells_the_rules_of_names(rt: HostRuntime) -> Result<(), Fail> {
 
 #[test]
 fn tells_the_rules_of_extents(rt: HostRuntime) -> Result<(), Fail> {
-    let cases: [(&[Edit], u8, u64); 14] = [
+    let cases: [(&[Edit], u8, u64); 16] = [
         (&[(8248, &[1])], 13, 8248),
         (&[(8447, &[1])], 13, 8447),
         (&[(8512, &[1]), (8440, &[1])], 13, 8440),
@@ -188,7 +192,13 @@ fn tells_the_rules_of_extents(rt: HostRuntime) -> Result<(), Fail> {
         (&[(8508, &[14])], 14, 8504),
         (&[(8243, &[255])], 14, 8240),
         (&[(8504, &[21]), (8496, &[2])], 14, 8496),
+        (&[(16, &[32]), (12_288, &[0, 0, 0, 0, 0])], 14, 8240),
         (&[(8504, &[6])], 15, 8504),
+        (
+            &[(8450, &[3]), (8504, &[6]), (8512, &[7, 0, 0, 0, 1])],
+            15,
+            8504,
+        ),
         (&[(8504, &[3])], 16, 8504),
         (&[(8504, &[5])], 16, 8504),
         (&[(8496, &[3]), (8504, &[3])], 16, 8496),
