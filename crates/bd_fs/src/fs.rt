@@ -45,6 +45,20 @@ impl Model for Fs {
 }
 
 impl Fs {
+    /// How many blocks the volume has.
+    pub fn total(&self) -> u32
+        ensures { result ≡ self.now.total }
+    {
+        self.total
+    }
+
+    /// The files by their ids; None where an id is free.
+    pub fn inodes(&self) -> &[Option<Inode>]
+        ensures { result.now ≡ self.now.files }
+    {
+        self.inodes.as_slice()
+    }
+
     /// The id of the file with this name, None exactly where there is none.
     pub fn lookup(&self, name: &Name) -> Option<FileId>
         ensures { result ≡ id_of name.now self.now.files }

@@ -7,4 +7,4 @@ mod policy;
 
 pub use errors::{CreateError, GrowError};
 pub use fs::Fs;
-pub use policy::{Ask, May};
+pub use policy::{Ask, May, denial};
