@@ -10,15 +10,16 @@ use Rattle.bd_base.specs.declared.limits.TheConstants.{DESCRIPTORS}
 use Rattle.bd_base.specs.declared.script.How.TheVariants.{Direct}
 use Rattle.bd_base.specs.declared.volume.Inode.{Inode}
 use Rattle.bd_base.specs.Files.{parts_for}
+use Rattle.bd_base.specs.Inodes.{blocks_at, inode_at}
 use Rattle.bd_machine.specs.declared.entry.Entry.{Entry}
 use Rattle.bd_machine.specs.History.{with_descriptor}
-use Rattle.bd_machine.specs.Store.{Descriptor, HasRows, IsDescriptor, Store, attaches_by, blocks_at, descriptor_at, has_part, has_plain, in_slot, is_plain_of, size_at, slots_of, with_slot, with_work}
+use Rattle.bd_machine.specs.Store.{Descriptor, HasRows, IsDescriptor, Store, attaches_by, descriptor_at, has_part, has_plain, in_slot, is_plain_of, size_at, slots_of, with_slot, with_work}
 use Rattle.bd_machine.proofs.Slots.{none_row, none_set, none_slot, row_cases, slot_cases}
 
 -- a descriptor of a valid store, where its sizes may be those of another time or not, and these files have a plain descriptor
 pub record IsSound (files : List (Option Inode)) (plain : ℕ → Bool) (stale : Bool) (d : Descriptor) : Type 0 where
-  pub of_file : IsSome (in_slot files d.file)
-  pub parts : All (λ part. part < parts_for (length (blocks_at files d.file))) d.attached
+  pub of_file : IsSome (inode_at files d.file)
+  pub parts : All (λ part. part < parts_for (length (blocks_at (inode_at files d.file)))) d.attached
   pub cleared : All (λ part. IsTrue (has_part part d.attached)) d.cleared
   pub sizes : d.attached ≢ [] → stale ≡ false → (d.known ≤ size_at files d.file) × (d.told ≤ size_at files d.file)
   pub direct : d.attached ≢ [] → (d.how ≡ Direct) × (plain d.file ≡ false)

@@ -1,6 +1,6 @@
 -- The turns of an open, as the code takes them.
 use Rattle.std.specs.Prelude.{slice_get}
-use Rattle.std.proofs.Common.{◌≡◌, ℕ, ◌+◌, ◌<◌, ◌≤◌, List, [], ◌∷◌, ◌++◌, Option, None, Some, refl, sym, ap, ◌∙◌, subst, arith, length}
+use Rattle.std.proofs.Common.{◌≡◌, ℕ, ◌+◌, ◌<◌, ◌≤◌, List, [], ◌∷◌, ◌++◌, None, Some, refl, sym, ap, ◌∙◌, subst, arith, length}
 use Rattle.bd_base.specs.declared.script.Call.TheVariants.{Enter}
 use Rattle.bd_base.specs.declared.script.How.{How}
 use Rattle.bd_base.specs.declared.script.How.TheVariants as hows
@@ -10,6 +10,7 @@ use Rattle.bd_base.specs.declared.script.Script.{Script}
 use Rattle.bd_base.specs.declared.volume.Inode.{Inode}
 use Rattle.bd_base.specs.declared.volume.Volume.{Volume}
 use Rattle.bd_base.specs.Files.{parts_for}
+use Rattle.bd_base.specs.Inodes.{id_of, inode_at}
 use Rattle.bd_base.specs.Volumes.{IsInode, IsVolume}
 use Rattle.bd_machine.specs.declared.entry.Entry.{Entry}
 use Rattle.bd_machine.specs.declared.entry.Entry.TheVariants.{Attached, Mapped, Opened}
@@ -18,14 +19,15 @@ use Rattle.bd_machine.specs.declared.run.Run.{Run}
 use Rattle.bd_machine.specs.declared.turn.Row.TheVariants as rows
 use Rattle.bd_machine.specs.declared.turn.Turn.{Turn}
 use Rattle.bd_machine.specs.declared.turn.Turn.TheVariants.{Did}
-use Rattle.std.proofs.lemmas.Option.{option_and_then_some, same_Some}
+use Rattle.std.proofs.lemmas.Option.{same_Some}
 use Rattle.std.proofs.lemmas.List.FromFn.{map-range_with_len_more}
 use Rattle.bd_machine.specs.Calls.{calls_of}
 use Rattle.bd_machine.specs.Running.{FollowsTrace, IsAt, IsReached, Phase, Before, Attaching, Reading, Over, Turned, attached_entry, journal_at, mapped_entry, opened_entry, part_total, state_of}
 use Rattle.bd_machine.specs.Simple.{Grants, Wish, simple_script}
-use Rattle.bd_machine.specs.Store.{file_named, in_slot, start_store}
+use Rattle.bd_machine.specs.Store.{start_store}
 use Rattle.bd_machine.proofs.Actions.{action-Before, action-attach, action-mapped, after-Before, after-attach, after-mapped}
 use Rattle.bd_machine.proofs.Turning.{turned}
+use Rattle.bd_machine.proofs.Volumes.{sound_inode}
 
 -- the run after an open has opened a file
 abbrev pub opened_run : Run → ℕ → ℕ → Mode → How → ℕ → Run
@@ -70,26 +72,26 @@ first-turn v w g Over run turn sound at follows closed = absurd (let no : ⊥ = 
 -- the file that an open finds is the one that the script names
 pub same_file : (v : Volume) (script : Script) (run : Run) (name : List ℕ) (mode : Mode) (how : How) (file : ℕ) →
     (reached : IsReached v script run) → run.ended ≡ 0 → slice_get (calls_of script 0) run.ended ≡ Some (Enter name mode how) →
-    file_named v.inodes name ≡ Some file → reached.grants.file ≡ file
+    id_of name v.inodes ≡ Some file → reached.grants.file ≡ file
 same_file v script run name mode how file reached ended called named =
     let first : Some (Enter reached.wish.name R hows.Direct) ≡ Some (Enter name mode how) = rw (reached.script_is, ended) at called in
     let call : Enter reached.wish.name R hows.Direct ≡ Enter name mode how = same_Some _ _ first in
     let same_name : reached.wish.name ≡ name = cc call in
-    same_Some _ _ (sym reached.grants.named ∙ ap (file_named v.inodes) same_name ∙ named)
+    same_Some _ _ (sym reached.grants.named ∙ ap (λ (n : List ℕ). id_of n v.inodes) same_name ∙ named)
 
 -- so it is there
 pub is_there : (v : Volume) (script : Script) (run : Run) (name : List ℕ) (mode : Mode) (how : How) (file : ℕ) →
     IsReached v script run → run.ended ≡ 0 → slice_get (calls_of script 0) run.ended ≡ Some (Enter name mode how) →
-    file_named v.inodes name ≡ Some file → in_slot v.inodes file ≡ None → ⊥
+    id_of name v.inodes ≡ Some file → inode_at v.inodes file ≡ None → ⊥
 is_there v script run name mode how file reached ended called named none =
     let same : reached.grants.file ≡ file = same_file v script run name mode how file reached ended called named in
-    let there : in_slot v.inodes file ≡ Some reached.grants.inode = subst (λ (n : ℕ). in_slot v.inodes n ≡ Some reached.grants.inode) same reached.grants.there in
+    let there : inode_at v.inodes file ≡ Some reached.grants.inode = subst (λ (n : ℕ). inode_at v.inodes n ≡ Some reached.grants.inode) same reached.grants.there in
     let no : ⊥ = cc (there, none) in no
 
 -- an open whose file is found opens it
 pub opened-turn : (v : Volume) (script : Script) (run : Run) (turn : ℕ) (name : List ℕ) (mode : Mode) (how : How) (file : ℕ) (f : Inode) →
     IsReached v script run → run.ended ≡ 0 → slice_get (calls_of script 0) run.ended ≡ Some (Enter name mode how) → run.opened ≡ None →
-    file_named v.inodes name ≡ Some file → in_slot v.inodes file ≡ Some f →
+    id_of name v.inodes ≡ Some file → inode_at v.inodes file ≡ Some f →
     Turned v script run (opened_run run turn file mode how f.size) turn (Did rows.Opened)
 opened-turn v script run turn name mode how file f reached ended called closed named there =
     let w = reached.wish in
@@ -99,20 +101,15 @@ opened-turn v script run turn name mode how file f reached ended called closed n
     let same_mode : R ≡ mode = cc call in
     let same_how : hows.Direct ≡ how = cc call in
     let same_f : g.file ≡ file = same_file v script run name mode how file reached ended called named in
-    let same_inode : g.inode ≡ f = same_Some _ _ (sym g.there ∙ ap (in_slot v.inodes) same_f ∙ there) in
+    let same_inode : g.inode ≡ f = same_Some _ _ (sym g.there ∙ ap (inode_at v.inodes) same_f ∙ there) in
     let follows = follows_simple v script run reached in
     let turn_taken = first-turn v w g reached.phase run turn reached.sound reached.at follows closed in
     at_script v script run (opened_run run turn file mode how f.size) turn (Did rows.Opened) reached
     (rw (← same_f, ← same_mode, ← same_how, ← same_inode) turn_taken)
 
--- what stands in a slot stands in the list
-pub slot_some : {X : Type 0} (slots : List (Option X)) (i : ℕ) (x : X) → in_slot slots i ≡ Some x → slice_get slots i ≡ Some (Some x)
-slot_some slots i x e =
-    option_and_then_some (λ slot. slot) (slice_get slots i) x e (λ slot at is. at ∙ ap Some is)
-
 -- the file that a simple script reads is sound
 pub sound_file : (v : Volume) (w : Wish) (g : Grants v w) → IsVolume v → IsInode v.total g.inode
-sound_file v w g sound = sound.files g.file g.inode (slot_some v.inodes g.file g.inode g.there)
+sound_file v w g sound = sound_inode v sound g.file g.inode g.there
 
 -- and has at most eight parts
 pub few_parts : (v : Volume) (w : Wish) (g : Grants v w) → IsVolume v → part_total g ≤ 8
@@ -189,12 +186,12 @@ attaching g Reading run o at opened ended = absurd (omega (arith, at.ended_is, e
 attaching g Over run o at opened ended = absurd (omega (arith, at.ended_is, ended))
 
 -- the file of an open one is the one that the script names
-pub same_inode : {v : Volume} {w : Wish} (g : Grants v w) (k : ℕ) (o : OpenFile) (f : Inode) → open_with g k ≡ o → in_slot v.inodes o.file ≡ Some f → g.inode ≡ f
-same_inode {v} g k o f same there = same_Some _ _ (sym g.there ∙ ap (λ (p : OpenFile). in_slot v.inodes p.file) same ∙ there)
+pub same_inode : {v : Volume} {w : Wish} (g : Grants v w) (k : ℕ) (o : OpenFile) (f : Inode) → open_with g k ≡ o → inode_at v.inodes o.file ≡ Some f → g.inode ≡ f
+same_inode {v} g k o f same there = same_Some _ _ (sym g.there ∙ ap (λ (p : OpenFile). inode_at v.inodes p.file) same ∙ there)
 
 -- an open with parts left attaches the next
 pub attached-turn : (v : Volume) (script : Script) (run : Run) (turn : ℕ) (o : OpenFile) (f : Inode) →
-    IsReached v script run → run.ended ≡ 0 → run.opened ≡ Some o → in_slot v.inodes o.file ≡ Some f → o.attached < parts_for (length f.blocks) →
+    IsReached v script run → run.ended ≡ 0 → run.opened ≡ Some o → inode_at v.inodes o.file ≡ Some f → o.attached < parts_for (length f.blocks) →
     Turned v script run (attached_run run turn o) turn (Did rows.Attach)
 attached-turn v script run turn o f reached ended opened there more =
     let w = reached.wish in
@@ -209,7 +206,7 @@ attached-turn v script run turn o f reached ended opened there more =
 
 -- an open with all parts attached ends
 pub mapped-turn : (v : Volume) (script : Script) (run : Run) (turn : ℕ) (o : OpenFile) (f : Inode) →
-    IsReached v script run → run.ended ≡ 0 → run.opened ≡ Some o → in_slot v.inodes o.file ≡ Some f → parts_for (length f.blocks) ≤ o.attached →
+    IsReached v script run → run.ended ≡ 0 → run.opened ≡ Some o → inode_at v.inodes o.file ≡ Some f → parts_for (length f.blocks) ≤ o.attached →
     Turned v script run (mapped_run run turn o f.size) turn (Did rows.Mapped)
 mapped-turn v script run turn o f reached ended opened there all =
     let w = reached.wish in

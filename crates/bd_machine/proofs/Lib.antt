@@ -18,3 +18,4 @@ pub mod RuleLaws
 pub mod Slots
 pub mod Descriptors
 pub mod StoreLaws
+pub mod Volumes

@@ -9,6 +9,7 @@ use Rattle.std.proofs.lemmas.List.{append-nil, length-map, length-set}
 use Rattle.std.proofs.lemmas.List.Elements.{All-cons, All-head, All-map, All-nil, All-tail}
 use Rattle.std.proofs.lemmas.List.Folds.{list_any-append}
 use Rattle.std.proofs.lemmas.List.FromFn.{get_or-range_with_len, length-range_with_len}
+use Rattle.std.proofs.lemmas.List.Quantifiers.{position-Some}
 use Rattle.std.proofs.lemmas.Option.{MatchOption-at_some, none-some, same_Some}
 use Rattle.bd_base.specs.declared.limits.TheConstants.{DESCRIPTORS}
 use Rattle.bd_base.specs.declared.script.Call.{Call}
@@ -19,6 +20,7 @@ use Rattle.bd_base.specs.declared.script.Mode.{Mode}
 use Rattle.bd_base.specs.declared.script.Process.{Process}
 use Rattle.bd_base.specs.declared.volume.Inode.{Inode}
 use Rattle.bd_base.specs.declared.range.Range.{Range}
+use Rattle.bd_base.specs.Inodes.{has_name, id_of, inode_at}
 use Rattle.bd_machine.specs.declared.entry.At.{At}
 use Rattle.bd_machine.specs.declared.entry.Way.{Way}
 use Rattle.bd_machine.specs.declared.entry.Entry.{Entry}
@@ -27,7 +29,7 @@ use Rattle.bd_machine.specs.Calls.{at_of, is_ended_by, is_mapped, opened_fd}
 use Rattle.bd_machine.specs.History.{change_of, effect_of, settled, with_descriptor}
 use Rattle.bd_machine.specs.Laws.{AreOfCall, IsNextEntry, StartIsValid, StepKeepsValid}
 use Rattle.bd_machine.specs.Rules.{EntryRule, IsOpen, RightFile, Rights, NoPlain, FitsStore}
-use Rattle.bd_machine.specs.Store.{Descriptor, HasRows, HasSoundFiles, Store, Valid, attaches_by, descriptor_at, has_name, has_part, has_plain, in_slot, is_empty_slot, is_plain_of, parts_in, size_of, slots_of, with_part, with_slot, with_work, work_of}
+use Rattle.bd_machine.specs.Store.{Descriptor, HasRows, HasSoundFiles, Store, Valid, attaches_by, descriptor_at, has_part, has_plain, in_slot, is_empty_slot, is_plain_of, parts_in, size_of, slots_of, with_part, with_slot, with_work, work_of}
 use Rattle.bd_machine.proofs.Descriptors.{AreSound, IsSound, KeepsFile, all_sound, alter, altered, attaching, not_plain, put, rows_slot, rows_work, sound_all, sound_work}
 use Rattle.bd_machine.proofs.Slots.{none_before, none_joined, other_row, row_there, row_within}
 
@@ -134,15 +136,12 @@ some_of None h = absurd (let no : ⊥ = cc in no)
 some_of (Some x) h = (x, refl)
 
 -- a file that a name finds is there
-file_there : (files : List (Option Inode)) (name : List ℕ) (file : ℕ) → position_from (has_name name) 0 files ≡ Some file → IsSome (in_slot files file)
-file_there files name file e =
-    let place = place_found (has_name name) 0 files file e in
-    let at : place.2.0 ≡ file = let same : file ≡ 0 + place.2.0 = place.2.1 in omega arith in
-    there place.0 place.1 (subst (λ (k : ℕ). slice_get files k ≡ Some place.0) at place.2.2)
+file_there : (files : List (Option Inode)) (name : List ℕ) (file : ℕ) → id_of name files ≡ Some file → IsSome (inode_at files file)
+file_there files name file e = there (inode_at files file) (position-Some (has_name name) files file None e).1
   where
-    there : (slot : Option Inode) → has_name name slot ≡ true → slice_get files file ≡ Some slot → IsSome (in_slot files file)
-    there None passes at = absurd (let no : ⊥ = cc passes in no)
-    there (Some f) passes at = rw at refl
+    there : (slot : Option Inode) → has_name name slot ≡ true → IsSome slot
+    there None passes = absurd (let no : ⊥ = cc passes in no)
+    there (Some f) passes = refl
 
 -- a descriptor that is no plain one of its own file is direct
 direct_one : (d : Descriptor) → is_plain_of d.file (Some d) ≡ false → d.how ≡ Direct

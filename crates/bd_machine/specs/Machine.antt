@@ -11,6 +11,7 @@ use Rattle.bd_base.specs.declared.script.Process.{Process}
 use Rattle.bd_base.specs.declared.script.Script.{Script}
 use Rattle.bd_base.specs.declared.volume.Inode.{Inode}
 use Rattle.bd_base.specs.declared.volume.Volume.{Volume}
+use Rattle.bd_base.specs.Inodes.{id_of}
 use Rattle.bd_base.specs.Pieces.{Piece, pieces}
 use Rattle.bd_base.specs.Policy.{open_denial}
 use Rattle.bd_machine.specs.declared.entry.At.{At}
@@ -24,7 +25,7 @@ use Rattle.bd_machine.specs.declared.turn.Turn.TheVariants.{Did, Idle}
 use Rattle.bd_machine.specs.Calls.{calls_of, is_access_of, is_ended_by, opened_fd}
 use Rattle.bd_machine.specs.History.{effect_of}
 use Rattle.bd_machine.specs.Rules.{bytes_within}
-use Rattle.bd_machine.specs.Store.{Descriptor, Store, blocks_in, descriptor_at, file_at, file_named, has_part, limit_at, lowest_fd, next_part, work_of}
+use Rattle.bd_machine.specs.Store.{Descriptor, Store, blocks_in, descriptor_at, file_at, has_part, limit_at, lowest_fd, next_part, work_of}
 
 -- a state: the script, the plain store, the journal so far, and for each process how many of its calls have ended and how many effective turns its running call has used
 pub record State : Type 0 where
@@ -62,7 +63,7 @@ opening s at name mode how =
     None)
     (slice_get s.uids at.process))
     (file_at s file))
-    (file_named s.files name)
+    (id_of name s.files)
   where
     is_allowed : Option ℕ → Bool
     is_allowed None = true

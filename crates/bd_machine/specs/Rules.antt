@@ -7,6 +7,7 @@ use Rattle.bd_base.specs.declared.script.Call.TheVariants.{Enter, Read}
 use Rattle.bd_base.specs.declared.script.How.TheVariants as hows
 use Rattle.bd_base.specs.declared.script.Script.{Script}
 use Rattle.bd_base.specs.declared.volume.Inode.{Inode}
+use Rattle.bd_base.specs.Inodes.{id_of}
 use Rattle.bd_base.specs.Pieces.{pieces}
 use Rattle.bd_base.specs.Policy.{open_denial}
 use Rattle.bd_machine.specs.declared.entry.At.{At}
@@ -14,7 +15,7 @@ use Rattle.bd_machine.specs.declared.entry.Entry.{Entry}
 use Rattle.bd_machine.specs.declared.entry.Entry.TheVariants.{Access, Attached, Mapped, Opened}
 use Rattle.bd_machine.specs.declared.entry.Way.TheVariants as ways
 use Rattle.bd_machine.specs.Calls.{at_of, call_at, calls_of, entries_of, fd_of_call, is_access_of, is_finished}
-use Rattle.bd_machine.specs.Store.{Store, blocks_in, descriptor_at, file_at, file_named, has_part, has_plain, limit_at, lowest_fd, lowest_unattached, has_fragment, next_part, work_of}
+use Rattle.bd_machine.specs.Store.{Store, blocks_in, descriptor_at, file_at, has_part, has_plain, limit_at, lowest_fd, lowest_unattached, has_fragment, next_part, work_of}
 
 -- the rules by what each is about
 pub data EntryRule : Type 0 where
@@ -96,7 +97,7 @@ HasRightDescriptor s (Access at piece fd file index block range wrote way bytes)
 
 -- the file is the one of the name, or of the descriptor
 abbrev pub HasRightFile : Store → Call → Entry → Type 0
-HasRightFile s (Enter name mode how) (Opened at file fd entry_mode entry_how) = file_named s.files name ≡ Some file
+HasRightFile s (Enter name mode how) (Opened at file fd entry_mode entry_how) = id_of name s.files ≡ Some file
 HasRightFile s call (Access at piece fd file index block range wrote way bytes) =
     IfSome (descriptor_at s at.process fd) (λ d. d.file ≡ file)
 HasRightFile s call entry = Unit {0}
@@ -146,7 +147,7 @@ HasRightBytes s entry = Unit {0}
 abbrev pub MayBegin : Store → At → Call → Type 0
 MayBegin s at (Enter name mode how) =
     IfSome (slice_get s.uids at.process) (λ uid.
-    (file : ℕ) × (f : Inode) × (file_named s.files name ≡ Some file) × (file_at s file ≡ Some f)
+    (file : ℕ) × (f : Inode) × (id_of name s.files ≡ Some file) × (file_at s file ≡ Some f)
     × (open_denial mode uid f.owner f.perms ≡ None) × IsSome (lowest_fd s at.process))
 MayBegin s at (Read fd off len) = IsSome (descriptor_at s at.process fd)
 

@@ -8,9 +8,9 @@ use Rattle.bd_base.specs.declared.script.Mode.TheVariants.{R}
 use Rattle.bd_base.specs.declared.script.Script.{Script}
 use Rattle.bd_base.specs.declared.volume.Inode.{Inode}
 use Rattle.bd_base.specs.declared.volume.Volume.{Volume}
+use Rattle.bd_base.specs.Inodes.{id_of, inode_at}
 use Rattle.bd_base.specs.Names.{IsName}
 use Rattle.bd_base.specs.Policy.{open_denial}
-use Rattle.bd_machine.specs.Store.{file_named, in_slot}
 
 -- what a simple script is about: the user, the name of the file, and how many bytes of it are read
 pub record Wish : Type 0 where
@@ -44,8 +44,8 @@ HasNoWish text = (w : Wish) → w.uid < 2 ^ 32 → IsName w.name → w.len < 2 ^
 pub record Grants (v : Volume) (w : Wish) : Type 0 where
   pub file : ℕ
   pub inode : Inode
-  pub named : file_named v.inodes w.name ≡ Some file
-  pub there : in_slot v.inodes file ≡ Some inode
+  pub named : id_of w.name v.inodes ≡ Some file
+  pub there : inode_at v.inodes file ≡ Some inode
   pub allowed : open_denial R w.uid inode.owner inode.perms ≡ None
   pub some : 1 ≤ w.len
   pub one_block : w.len ≤ BLOCK_SIZE

@@ -1,8 +1,7 @@
 -- The plain store: files as lists of blocks, the bytes of all blocks, and descriptors with sets of rights.
-use Rattle.std.specs.Prelude.{◌≡◌, ◌≢◌, ℕ, ◌+◌, ◌*◌, ◌<◌, ◌≤◌, nat_eq, nat_lt, cond, Bool, false, ◌&&◌, not, List, [], ◌∷◌, map, filter, length, slice_get, slice_index_or, slice_set, Option, None, Some, IsSome, All, Contains, IsTrue, true, ◌||◌, ◌/◌, ◌%◌, replicate}
+use Rattle.std.specs.Prelude.{◌≡◌, ◌≢◌, ℕ, ◌+◌, ◌*◌, ◌<◌, ◌≤◌, nat_eq, nat_lt, cond, Bool, false, ◌&&◌, not, List, [], ◌∷◌, map, filter, length, slice_index_or, slice_set, Option, None, Some, IsSome, All, Contains, IsTrue, true, ◌||◌, ◌/◌, ◌%◌, replicate}
 use Rattle.std.specs.Option.{option_and_then, option_map_or}
 use Rattle.std.specs.List.{find, flat_map, list_any, position_from, range_with_len}
-use Rattle.std.specs.Str.{bytes_eq}
 use Rattle.bd_base.specs.declared.limits.TheConstants.{BLOCK_SIZE, FILE_SIZE, FRAGMENTS, DESCRIPTORS}
 use Rattle.bd_base.specs.declared.volume.Inode.{Inode}
 use Rattle.bd_base.specs.declared.volume.Volume.{Volume}
@@ -13,6 +12,8 @@ use Rattle.bd_base.specs.declared.script.Process.{Process}
 use Rattle.bd_base.specs.declared.script.Script.{Script}
 use Rattle.bd_base.specs.Extents.{extents_of}
 use Rattle.bd_base.specs.Files.{blocks_for, data_start, limit_of, parts_for}
+use Rattle.bd_base.specs.Inodes.{blocks_at, inode_at}
+use Rattle.bd_fs.specs.Files.{NamesDiffer}
 use Rattle.bd_machine.specs.declared.entry.Entry.{Entry}
 use Rattle.bd_machine.specs.declared.entry.Entry.TheVariants.{Attached}
 
@@ -37,24 +38,21 @@ pub record Store : Type 0 where
 
 -- what stands at an index of a list of slots
 abbrev pub in_slot : {X : Type 0} → List (Option X) → ℕ → Option X
-in_slot slots i = option_and_then (λ slot. slot) (slice_get slots i)
+in_slot slots i = slice_index_or slots i None
 
 abbrev pub file_at : Store → ℕ → Option Inode
-file_at s file = in_slot s.files file
+file_at s file = inode_at s.files file
 
 -- the size of a file, 0 where there is none
 abbrev pub size_at : List (Option Inode) → ℕ → ℕ
-size_at files file = option_map_or (λ (f : Inode). f.size) (in_slot files file) 0
+size_at files file = option_map_or (λ (f : Inode). f.size) (inode_at files file) 0
 
 abbrev pub size_of : Store → ℕ → ℕ
 size_of s file = size_at s.files file
 
 -- the blocks of a file, none where there is no such file
-abbrev pub blocks_at : List (Option Inode) → ℕ → List ℕ
-blocks_at files file = option_map_or (λ (f : Inode). f.blocks) (in_slot files file) []
-
 abbrev pub blocks_in : Store → ℕ → List ℕ
-blocks_in s file = blocks_at s.files file
+blocks_in s file = blocks_at (inode_at s.files file)
 
 -- how many bytes of block number index belong to the file
 abbrev pub limit_at : Store → ℕ → ℕ → ℕ
@@ -74,15 +72,6 @@ descriptor_at s process fd = in_slot (slots_of s process) fd
 -- the entries of the running call of a process
 abbrev pub work_of : Store → ℕ → List Entry
 work_of s process = slice_index_or s.work process []
-
--- whether the file in a slot has this name
-abbrev pub has_name : List ℕ → Option Inode → Bool
-has_name name None = false
-has_name name (Some file) = bytes_eq file.name name
-
--- the file of this name
-abbrev pub file_named : List (Option Inode) → List ℕ → Option ℕ
-file_named files name = position_from (has_name name) 0 files
 
 -- a block of the data area that no file owns
 pub record IsFree (s : Store) (block : ℕ) : Type 0 where
@@ -176,12 +165,12 @@ pub record IsFile (f : Inode) : Type 0 where
 
 -- what the files of a valid store are, with the number and the bytes of its blocks
 pub record HasSoundFiles (total : ℕ) (files : List (Option Inode)) (bytes : List ℕ) : Type 0 where
-  pub sound : (id : ℕ) (f : Inode) → in_slot files id ≡ Some f → IsFile f
-  pub in_area : (id block : ℕ) → Contains (blocks_at files id) block → (data_start (length files) ≤ block) × (block < total)
-  pub disjoint : (i j block : ℕ) → Contains (blocks_at files i) block → Contains (blocks_at files j) block → i ≡ j
-  pub once : (id i j d : ℕ) → i < length (blocks_at files id) → j < length (blocks_at files id) → slice_index_or (blocks_at files id) i d ≡ slice_index_or (blocks_at files id) j d → i ≡ j
-  pub tails : (id i d : ℕ) → size_at files id ≤ i → i < BLOCK_SIZE * length (blocks_at files id) → slice_index_or bytes (BLOCK_SIZE * slice_index_or (blocks_at files id) (i / BLOCK_SIZE) d + i % BLOCK_SIZE) 0 ≡ 0
-  pub names : (i j : ℕ) (f g : Inode) → in_slot files i ≡ Some f → in_slot files j ≡ Some g → f.name ≡ g.name → i ≡ j
+  pub sound : (id : ℕ) (f : Inode) → inode_at files id ≡ Some f → IsFile f
+  pub in_area : (id block : ℕ) → Contains (blocks_at (inode_at files id)) block → (data_start (length files) ≤ block) × (block < total)
+  pub disjoint : (i j block : ℕ) → Contains (blocks_at (inode_at files i)) block → Contains (blocks_at (inode_at files j)) block → i ≡ j
+  pub once : (id i j d : ℕ) → i < length (blocks_at (inode_at files id)) → j < length (blocks_at (inode_at files id)) → slice_index_or (blocks_at (inode_at files id)) i d ≡ slice_index_or (blocks_at (inode_at files id)) j d → i ≡ j
+  pub tails : (id i d : ℕ) → size_at files id ≤ i → i < BLOCK_SIZE * length (blocks_at (inode_at files id)) → slice_index_or bytes (BLOCK_SIZE * slice_index_or (blocks_at (inode_at files id)) (i / BLOCK_SIZE) d + i % BLOCK_SIZE) 0 ≡ 0
+  pub names : NamesDiffer files
 
 -- each process has a row of descriptors, each row as many slots as a process has numbers for them, and a row for its running call
 pub record HasRows (s : Store) : Type 0 where

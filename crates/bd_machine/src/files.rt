@@ -1,7 +1,8 @@
-//! Finding a file of a volume, and the number of its parts.
-ghost use Rattle.std.specs.Prelude.{◌≡◌, ◌≤◌, ◌<◌, length};
+//! The files of a volume by name and by id, and the number of their parts.
+ghost use Rattle.std.specs.Prelude.{◌≡◌, ◌≤◌, length};
+ghost use Rattle.std.specs.Option.{option_copied};
 ghost use Rattle.bd_base.specs.Files.{parts_for};
-ghost use Rattle.bd_machine.specs.Store.{file_named, has_name};
+ghost use Rattle.bd_base.specs.Inodes.{has_name, id_of, inode_at};
 
 use bd_base::{BlockNo, FILES, FileId, Inode, PART_BLOCKS};
 
@@ -10,22 +11,32 @@ fn is_named(slot: &Option<Inode>, name: &[u8]) -> bool
     ensures { result ≡ has_name name.now slot.now }
 {
     match slot {
-        Some(file) => file.name.as_slice() == name,
+        Some(file) => name == file.name.as_slice(),
         None => false,
     }
+}
+
+/// The place of the first file of this name.
+fn place_of(inodes: &[Option<Inode>], name: &[u8]) -> Option<usize>
+    ensures { result ≡ id_of name.now inodes.now }
+{
+    inodes.iter().position(|slot| is_named(slot, name))
 }
 
 /// The file of this name.
 pub(crate) fn find_file(inodes: &[Option<Inode>], name: &[u8]) -> Option<FileId>
     requires { length inodes.now ≤ FILES }
-    ensures { result ≡ file_named inodes.now name.now }
+    ensures { result ≡ id_of name.now inodes.now }
 {
-    for (i, slot) in inodes.iter().enumerate() {
-        if is_named(slot, name) {
-            return FileId::new(i as u64);
-        }
-    }
-    None
+    let index = place_of(inodes, name)?;
+    FileId::new(index as u64)
+}
+
+/// The file of this id.
+pub(crate) fn inode_of(inodes: &[Option<Inode>], file: FileId) -> Option<&Inode>
+    ensures { option_copied result ≡ inode_at inodes.now file }
+{
+    inodes.get(file.get() as usize)?.as_ref()
 }
 
 /// How many parts a file of these blocks has.

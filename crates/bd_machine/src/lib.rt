@@ -1,6 +1,7 @@
 //! The machine: processes whose calls are taken turn by turn, and the journal that they leave.
 #![tactic(auto)]
 
+mod disk;
 mod entry;
 mod error;
 mod files;

@@ -1,6 +1,7 @@
 //! The machine: it takes turns, and keeps the journal and the trace of them.
 ghost use Rattle.std.specs.Prelude.{◌≡◌, ◌+◌, ◌<◌, ◌≤◌, ◌↔◌, IfOk, OnOk, OnErr};
 ghost use Rattle.std.specs.Bool.{OnFalse, OnTrue};
+ghost use Rattle.bd_base.specs.Inodes.{AreValidFiles};
 ghost use Rattle.bd_base.specs.Volumes.{IsVolume};
 ghost use Rattle.bd_machine.specs.Course.{actor_count};
 ghost use Rattle.bd_machine.specs.History.{InOrder};
@@ -8,6 +9,7 @@ ghost use Rattle.bd_machine.specs.Machine.{LowersRest, SomeActorActs, all_ended,
 ghost use Rattle.bd_machine.specs.Running.{IsHistory, booted, stepped};
 ghost use Rattle.bd_machine.specs.Simple.{IsSimple};
 
+use crate::disk::Disk;
 use crate::entry::{Entry, EntryList};
 use crate::processor::{call_count, take_turn};
 use crate::run::Run;
@@ -20,9 +22,9 @@ use std::marker::Model;
 const FIRST_ENTRIES: usize = 16;
 
 /// A machine that runs a simple script over a volume.
-#[derive(Debug, Drop)]
+#[derive(Drop)]
 pub struct Machine {
-    start: Volume,
+    start: Disk,
     script: Script,
     run: Run,
     turns: u64,
@@ -40,16 +42,18 @@ impl Model for Machine {
 
 impl Machine {
     /// A machine before its first turn. The script is simple for the volume, which has the bytes of all its blocks and
-    /// sound files (docs/MACHINE.md, "Simple scripts").
+    /// valid files, as that of an image has (docs/MACHINE.md, "Simple scripts").
     pub fn boot(alloc: Global, volume: Volume, script: Script) -> Result<Machine, OutOfMemory>
         requires volume { IsVolume volume }
+        requires files { AreValidFiles volume.total volume.inodes }
         requires script { IsSimple volume script }
         ensures { IfOk result (λ machine. machine ≡ booted volume script) }
     {
+        let start = Disk::new(alloc, volume)?;
         let journal = List::with_capacity(alloc, FIRST_ENTRIES)?;
         let trace = List::with_capacity(alloc, FIRST_ENTRIES)?;
         Ok(Machine {
-            start: volume,
+            start,
             script,
             run: Run {
                 opened: None,

@@ -1,17 +1,19 @@
 //! The turns of the process.
 ghost use Rattle.std.specs.Prelude.{◌≡◌, ◌<◌, ◌≤◌, ◌^◌, None, Some, IfOk, OnErr, length, slice_get, MatchOption};
 ghost use Rattle.std.specs.Option.{option_copied};
+ghost use Rattle.bd_base.specs.declared.volume.Inode.{Inode};
 ghost use Rattle.bd_base.specs.Files.{limit_of, parts_for};
+ghost use Rattle.bd_base.specs.Inodes.{id_of, inode_at};
 ghost use Rattle.bd_base.specs.Volumes.{IsInode, IsVolume};
 ghost use Rattle.bd_machine.specs.Calls.{calls_of};
 ghost use Rattle.bd_machine.specs.Rules.{bytes_within};
 ghost use Rattle.bd_machine.specs.Running.{IsReached, Turned, moved_of};
-ghost use Rattle.bd_machine.specs.Store.{file_named, in_slot};
 
-use crate::files::{find_file, part_count};
+use crate::disk::Disk;
+use crate::files::part_count;
 use crate::run::{Moved, Run, attach_part, end_open, end_read, open_file};
 use crate::turn::{Row, Turn};
-use bd_base::{BLOCK_SIZE, Call, FileId, Inode, OutOfMemory, Range, Script, Volume};
+use bd_base::{BLOCK_SIZE, Call, FileId, OutOfMemory, Range, Script};
 
 /// The call of the process that has this number.
 fn call_of(script: &Script, number: u64) -> Option<&Call>
@@ -31,21 +33,14 @@ pub(crate) fn call_count(script: &Script) -> u64
     }
 }
 
-/// The file of this id.
-pub(crate) fn inode_of(volume: &Volume, file: FileId) -> Option<&Inode>
-    ensures { option_copied result ≡ in_slot volume.now.inodes file }
-{
-    volume.inodes.as_slice().get(file.get() as usize)?.as_ref()
-}
-
 /// The first `len` bytes of a file, at most a block.
-fn read_first(volume: &Volume, file: FileId, len: u16) -> Result<Option<Moved>, OutOfMemory>
-    requires volume { IsVolume volume.now }
+fn read_first(start: &Disk, file: FileId, len: u16) -> Result<Option<Moved>, OutOfMemory>
+    requires volume { IsVolume start.now }
     requires some { 1 ≤ len }
     requires one_block { len ≤ BLOCK_SIZE }
-    ensures { IfOk result (λ moved. (f : Inode) → in_slot volume.now.inodes file ≡ Some f → len ≤ f.size → moved ≡ Some (moved_of volume.now file f len)) }
+    ensures { IfOk result (λ moved. (f : Inode) → inode_at start.now.inodes file ≡ Some f → len ≤ f.size → moved ≡ Some (moved_of start.now file f len)) }
 {
-    let Some(inode) = inode_of(volume, file) else {
+    let Some(inode) = start.inode(file) else {
         return Ok(None);
     };
     let Some(block) = inode.blocks.as_slice().first() else {
@@ -55,7 +50,7 @@ fn read_first(volume: &Volume, file: FileId, len: u16) -> Result<Option<Moved>, 
         return Ok(None);
     };
     let from = (block.get() * BLOCK_SIZE) as usize;
-    let bytes = volume.bytes.copy_range(from, from + usize::from(len))?;
+    let bytes = start.bytes().copy_range(from, from + usize::from(len))?;
     Ok(Some(Moved {
         file,
         block: *block,
@@ -65,12 +60,7 @@ fn read_first(volume: &Volume, file: FileId, len: u16) -> Result<Option<Moved>, 
 }
 
 /// A turn of an open: it opens the file, then attaches part by part, and at last tells how many are.
-fn enter_turn(
-    start: &Volume,
-    script: &Script,
-    run: &mut Run,
-    turn: u64,
-) -> Result<Turn, OutOfMemory>
+fn enter_turn(start: &Disk, script: &Script, run: &mut Run, turn: u64) -> Result<Turn, OutOfMemory>
     requires reached { IsReached start.now script.now run.old }
     requires entering { run.old.ended ≡ 0 }
     ensures turned { IfOk result (λ answer. Turned start.now script.now run.old run.new turn answer) }
@@ -80,16 +70,16 @@ fn enter_turn(
         return Ok(Turn::Idle);
     };
     let Some(opened) = run.opened else {
-        let Some(file) = find_file(start.inodes.as_slice(), name.as_slice()) else {
+        let Some(file) = start.find(name) else {
             return Ok(Turn::Idle);
         };
-        let Some(inode) = inode_of(start, file) else {
+        let Some(inode) = start.inode(file) else {
             return Ok(Turn::Idle);
         };
         open_file(run, turn, file, *mode, *how, inode.size)?;
         return Ok(Turn::Did(Row::Opened));
     };
-    let Some(inode) = inode_of(start, opened.file) else {
+    let Some(inode) = start.inode(opened.file) else {
         return Ok(Turn::Idle);
     };
     if u64::from(opened.attached) < part_count(inode.blocks.as_slice()) {
@@ -101,7 +91,7 @@ fn enter_turn(
 }
 
 /// The turn of a read: it moves the one piece.
-fn read_turn(start: &Volume, script: &Script, run: &mut Run, turn: u64) -> Result<Turn, OutOfMemory>
+fn read_turn(start: &Disk, script: &Script, run: &mut Run, turn: u64) -> Result<Turn, OutOfMemory>
     requires reached { IsReached start.now script.now run.old }
     requires reading { run.old.ended ≡ 1 }
     ensures turned { IfOk result (λ answer. Turned start.now script.now run.old run.new turn answer) }
@@ -122,7 +112,7 @@ fn read_turn(start: &Volume, script: &Script, run: &mut Run, turn: u64) -> Resul
 
 /// One turn of the process. After an error all is as before.
 pub(crate) fn take_turn(
-    start: &Volume,
+    start: &Disk,
     script: &Script,
     run: &mut Run,
     turn: u64,

@@ -1,5 +1,6 @@
 //! Running a machine to its end: its actors take turns in rounds.
 ghost use Rattle.std.specs.Prelude.{◌≡◌, ◌+◌, ◌-◌, ◌*◌, ◌<◌, ◌≤◌, ◌^◌, ℕ, [], false, IfOk, OnOk};
+ghost use Rattle.bd_base.specs.Inodes.{AreValidFiles};
 ghost use Rattle.bd_base.specs.Volumes.{IsVolume};
 ghost use Rattle.bd_machine.specs.Course.{IsCourse, actor_count};
 ghost use Rattle.bd_machine.specs.History.{InOrder};
@@ -31,6 +32,7 @@ fn take_round(machine: &mut Machine, actors: u64) -> Result<(), OutOfMemory>
 /// Runs a simple script to its end: turns of the actors 0, 1, .. in rounds, until every call has ended.
 pub fn replay(alloc: Global, volume: Volume, script: Script) -> Result<Machine, OutOfMemory>
     requires volume { IsVolume volume }
+    requires files { AreValidFiles volume.total volume.inodes }
     requires script { IsSimple volume script }
     ensures start { IfOk result (λ machine. machine.start ≡ volume) }
     ensures script { IfOk result (λ machine. machine.state.script ≡ script) }

@@ -10,12 +10,13 @@ ghost use Rattle.bd_machine.specs.Simple.{Grants, HasNoWish, IsSimpleText, simpl
 ghost use Rattle.bd_machine.specs.Texts.{HasNoName, HasNoNumber, has_byte};
 
 use crate::error::ScriptError;
-use crate::files::find_file;
-use crate::processor::inode_of;
+use crate::files::{find_file, inode_of};
 use bd_base::{
     BLOCK_SIZE, Call, How, Inode, List, Mode, NAME_SIZE, OutOfMemory, Process, Script, Volume,
 };
+use bd_fs::{Ask, denial};
 use std::alloc::Global;
+
 /// The number that these digits write, where it has at most 64 bits. It has no leading zero.
 fn read_number(digits: &[u8]) -> Option<u64>
     ensures { MatchOption result ((n : ℕ) → n < 2 ^ 64 → digits.now ≢ decimal n) (λ n. (n < 2 ^ 64) × (digits.now ≡ decimal n)) }
@@ -122,11 +123,7 @@ fn read_wish(text: &[u8]) -> Option<(u32, &[u8], u64)>
 fn may_read(uid: u32, file: &Inode) -> bool
     ensures { IsTrue result ↔ (open_denial R uid file.now.owner file.now.perms ≡ None) }
 {
-    if uid == file.owner {
-        file.perms % 2 == 1
-    } else {
-        file.perms / 4 % 2 == 1
-    }
+    denial(Ask::Read, uid, file.owner, file.perms).is_none()
 }
 
 /// Whether the volume has the file, the user may read it, and its first block has so many bytes.
@@ -138,7 +135,7 @@ fn is_granted(volume: &Volume, uid: u32, name: &[u8], len: u64) -> bool
     let Some(file) = find_file(volume.inodes.as_slice(), name) else {
         return false;
     };
-    let Some(inode) = inode_of(volume, file) else {
+    let Some(inode) = inode_of(volume.inodes.as_slice(), file) else {
         return false;
     };
     if !may_read(uid, inode) {

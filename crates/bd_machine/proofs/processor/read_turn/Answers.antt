@@ -3,13 +3,13 @@ use Rattle.std.proofs.Common.{◌≡◌, ◌≤◌, ℕ, sym, ap, ◌∙◌, sub
 use Rattle.std.proofs.lemmas.Option.{same_Some}
 use Rattle.bd_base.specs.declared.script.Call.{Call}
 use Rattle.bd_base.specs.declared.script.Call.TheVariants.{Read}
+use Rattle.bd_base.specs.Inodes.{inode_at}
 use Rattle.bd_machine.specs.declared.run.Moved.{Moved}
 use Rattle.bd_machine.specs.declared.run.Run.{Run}
 use Rattle.bd_machine.specs.declared.turn.Turn.TheVariants.{Did}
 use Rattle.bd_machine.specs.declared.turn.Row.TheVariants as rows
 use Rattle.bd_machine.specs.Calls.{calls_of}
 use Rattle.bd_machine.specs.Running.{Turned, moved_of}
-use Rattle.bd_machine.specs.Store.{in_slot}
 use Rattle.bd_machine.proofs.Reading.{moved-turn, moved_run, opened_file, same_len}
 use Rattle.bd_machine.proofs.processor.read_turn.Goals as goal
 
@@ -24,7 +24,7 @@ returns-clause-turned c =
     sym c.in-Some-Read.ensures ∙ ap (λ (call : Call). Some call) c.in-Some-Read.field-0-is in
     let len_is : reached.wish.len ≡ c.in-Some-Read.len = same_len v script run c.in-Some-Read.field-0-0 c.in-Some-Read.field-0-1 c.in-Some-Read.len reached c.requires.reading called in
     let file_is : reached.grants.file ≡ c.in-Some.opened.file = opened_file v script run c.in-Some.opened reached c.requires.reading c.in-Some.is in
-    let there : in_slot v.inodes c.in-Some.opened.file ≡ Some f = subst (λ (n : ℕ). in_slot v.inodes n ≡ Some f) file_is reached.grants.there in
+    let there : inode_at v.inodes c.in-Some.opened.file ≡ Some f = subst (λ (n : ℕ). inode_at v.inodes n ≡ Some f) file_is reached.grants.there in
     let within : c.in-Some-Read.len ≤ f.size = subst (λ (n : ℕ). n ≤ f.size) len_is reached.grants.within in
     let moved_is : moved_of v c.in-Some.opened.file f c.in-Some-Read.len ≡ c.in-Some-2.moved = same_Some _ _ (sym (c.in_ok-moved.ensures f there within) ∙ c.in-Some-2.is) in
     subst (λ (next : Run). Turned v script run next c.args.turn (Did rows.Move)) (sym c.in_ok-end_read.ensures.ok)
