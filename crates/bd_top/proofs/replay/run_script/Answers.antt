@@ -16,6 +16,9 @@ use Rattle.bd_top.proofs.replay.run_script.Goals as goal
 pub replay-requires-clause-volume : goal.replay-requires-clause-volume
 replay-requires-clause-volume c = volume_for_machine c.args.volume (c.volume_within_limits.ensures c.args.volume c.requires.volume)
 
+pub replay-requires-clause-files : goal.replay-requires-clause-files
+replay-requires-clause-files c = (c.volume_within_limits.ensures c.args.volume c.requires.volume).files.valid
+
 pub returns : goal.returns
 returns c =
     let m : Progress = c.in_ok-machine.machine in
