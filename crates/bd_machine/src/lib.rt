@@ -12,6 +12,8 @@ mod processor;
 mod rounds;
 mod run;
 mod simple_script;
+#[cfg(test)]
+mod tests;
 mod turn;
 
 pub use entry::{At, Entry, EntryList, Way};
