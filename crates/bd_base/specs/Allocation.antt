@@ -1,7 +1,8 @@
 -- Which block an allocation takes, over a test that says which blocks are free.
-use Rattle.std.specs.Prelude.{ℕ, ◌+◌, ◌-◌, ◌/◌, Bool, ◌&&◌, nat_eq, nat_le, nat_lt, cond, Option, None, Some, List, length, find, sum_by, count_by, slice_get}
+use Rattle.std.specs.Prelude.{ℕ, ◌+◌, ◌-◌, Bool, ◌&&◌, nat_eq, nat_le, nat_lt, cond, Option, None, Some, List, length, find, sum_by, count_by, slice_get}
 use Rattle.std.specs.List.{range_with_len}
 use Rattle.std.specs.Option.{option_or}
+use Rattle.bd_base.specs.Files.{data_start}
 
 -- the lowest free block below total
 abbrev pub lowest_free : (ℕ → Bool) → ℕ → Option ℕ
@@ -16,13 +17,9 @@ free_block_after is_free (Some block) = cond (is_free (block + 1)) (Some (block 
 abbrev pub allocated : (ℕ → Bool) → ℕ → Option ℕ → Option ℕ
 allocated is_free total after = option_or (free_block_after is_free after) (lowest_free is_free total)
 
--- the first data block of an image with room for so many files: two blocks and the records stand before it, 16 to a block
-abbrev pub first_data_block : ℕ → ℕ
-first_data_block capacity = 2 + capacity / 16
-
 -- whether this is a data block of an image of total blocks with room for so many files
 abbrev pub is_data_block : ℕ → ℕ → ℕ → Bool
-is_data_block total capacity block = nat_le (first_data_block capacity) block && nat_lt block total
+is_data_block total capacity block = nat_le (data_start capacity) block && nat_lt block total
 
 -- how often a block stands in lists of blocks
 abbrev pub times_listed : List (List ℕ) → ℕ → ℕ

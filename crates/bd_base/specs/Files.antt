@@ -14,6 +14,6 @@ parts_for blocks = (blocks + (PART_BLOCKS - 1)) / PART_BLOCKS
 abbrev pub limit_of : ℕ → List ℕ → ℕ → ℕ
 limit_of size blocks index = cond (nat_lt index (length blocks)) (min BLOCK_SIZE (size - BLOCK_SIZE * index)) 0
 
--- the first data block of an image with this many records
+-- the first data block of an image with this many records: two blocks and the records stand before it, 16 to a block
 abbrev pub data_start : ℕ → ℕ
 data_start inodes = 2 + inodes / 16

@@ -1,14 +1,15 @@
 -- Lists of files by their ids, None where an id is free.
-use Rattle.std.specs.Prelude.{◌≡◌, ℕ, ◌-◌, ◌*◌, ◌%◌, ◌<◌, ◌≤◌, Bool, false, ◌&&◌, ◌||◌, IsTrue, nat_eq, nat_le, nat_lt, is_some, not, cond, take, Option, None, Some, List, [], ◌∷◌, ◌++◌, length, map, position, slice_index_or, unwrap_or, All}
+use Rattle.std.specs.Prelude.{◌≡◌, ℕ, ◌-◌, ◌*◌, ◌%◌, ◌<◌, ◌≤◌, Bool, false, IsTrue, nat_eq, nat_le, nat_lt, is_some, not, cond, take, Option, None, Some, List, [], ◌∷◌, ◌++◌, length, map, position, slice_index_or, unwrap_or, All}
 use Rattle.std.specs.Option.{option_to_list}
 use Rattle.std.specs.Str.{bytes_eq}
-use Rattle.bd_base.specs.declared.limits.TheConstants.{BLOCK_SIZE, BLOCKS, FILES, FILE_SIZE, NAME_SIZE, PERMS}
+use Rattle.bd_base.specs.declared.limits.TheConstants.{BLOCK_SIZE, BLOCKS, FILES, FILE_SIZE, PERMS}
 use Rattle.bd_base.specs.declared.reason.Reason.{Reason}
 use Rattle.bd_base.specs.declared.reason.Reason.TheVariants.{Exists, Inodes, NoSpace, Extents, TooBig}
 use Rattle.bd_base.specs.declared.volume.Inode.{Inode}
 use Rattle.bd_base.specs.Allocation.{allocated, is_data_block, is_free_block, last_block, times_listed}
 use Rattle.bd_base.specs.Extents.{extents_of}
 use Rattle.bd_base.specs.Files.{blocks_for}
+use Rattle.bd_base.specs.Names.{IsName}
 
 -- ---- one file by its id or name
 
@@ -65,28 +66,18 @@ pub record IsValidFile (total capacity : ℕ) (file : Inode) : Type 0 where
   pub size_in_range : file.size ≤ FILE_SIZE
   pub few_extents : length (extents_of file.blocks) ≤ most_extents
 
+-- no two files have one name
+abbrev pub NamesDiffer : List (Option Inode) → Type 0
+NamesDiffer files =
+    (i j : ℕ) (file other : Inode) → inode_at files i ≡ Some file → inode_at files j ≡ Some other → file.name ≡ other.name → i ≡ j
+
 -- files of an image of total blocks
 pub record AreValidFiles (total : ℕ) (files : List (Option Inode)) : Type 0 where
   pub few_blocks : total ≤ BLOCKS
   pub few_files : length files ≤ FILES
   pub each : (id : ℕ) (file : Inode) → inode_at files id ≡ Some file → IsValidFile total (length files) file
   pub owned_once : (block : ℕ) → times_listed (block_lists files) block ≤ 1
-  pub names_differ : (i j : ℕ) (file other : Inode) → inode_at files i ≡ Some file → inode_at files j ≡ Some other → file.name ≡ other.name → i ≡ j
-
--- whether this is one of `a` to `z`, `0` to `9`, `.`, `_` and `-`
-abbrev pub is_name_byte : ℕ → Bool
-is_name_byte byte =
-    (nat_le 97 byte && nat_le byte 122)
-    || (nat_le 48 byte && nat_le byte 57)
-    || nat_eq byte 46
-    || nat_eq byte 95
-    || nat_eq byte 45
-
--- 1 to 31 bytes that a name may have
-pub record IsName (name : List ℕ) : Type 0 where
-  pub not_empty : 0 < length name
-  pub short : length name ≤ NAME_SIZE
-  pub bytes : All (λ byte. IsTrue (is_name_byte byte)) name
+  pub names_differ : NamesDiffer files
 
 -- the files of an accepted image
 pub record AreFiles (total : ℕ) (files : List (Option Inode)) : Type 0 where

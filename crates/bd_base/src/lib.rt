@@ -21,7 +21,7 @@ pub use script::{
     Call, CallList, How, Item, ItemList, Mode, Process, ProcessList, ScheduleLine, ScheduleList,
     Script,
 };
-pub use volume::{BlockList, Extent, ExtentList, Inode, InodeList, Name, Volume};
+pub use volume::{BlockList, Extent, ExtentList, Inode, InodeList, Name, Volume, copy_inodes};
 
 #[cfg(test)]
 mod tests;

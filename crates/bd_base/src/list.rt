@@ -54,15 +54,6 @@ impl<T> List<T> {
         Ok(List { items })
     }
 
-    /// An empty list with the allocator of this one. It takes no memory.
-    pub fn emptied(&self) -> List<T>
-        ensures { result ≡ [] }
-    {
-        List {
-            items: Vec::new(*self.items.allocator()),
-        }
-    }
-
     /// Appends an item. Where no memory is found the item is dropped, and the list is as before.
     pub fn push(&mut self, item: T) -> Result<(), OutOfMemory>
     where

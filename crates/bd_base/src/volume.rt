@@ -3,6 +3,7 @@ ghost use Rattle.std.specs.Prelude.{◌≡◌, IfOk};
 
 use crate::list::{Bytes, List, OutOfMemory};
 use crate::numbers::BlockNo;
+use std::alloc::Global;
 
 /// A file's name.
 pub type Name = List<u8>;
@@ -54,11 +55,11 @@ fn copy_slot(slot: &Option<Inode>) -> Result<Option<Inode>, OutOfMemory>
 }
 
 /// The same files.
-fn copy_inodes(inodes: &InodeList) -> Result<InodeList, OutOfMemory>
+pub fn copy_inodes(alloc: Global, inodes: &[Option<Inode>]) -> Result<InodeList, OutOfMemory>
     ensures { IfOk result (λ copy. copy ≡ inodes.now) }
 {
-    let mut copy = inodes.emptied();
-    for slot in inodes.as_slice() {
+    let mut copy = List::with_capacity(alloc, inodes.len())?;
+    for slot in inodes {
         copy.push(copy_slot(slot)?)?;
     }
     Ok(copy)
@@ -83,17 +84,4 @@ pub struct Volume {
     pub inodes: InodeList,
     /// The bytes of all blocks, block b from 4096 * b on; those of the metadata blocks are 0.
     pub bytes: Bytes,
-}
-
-impl Volume {
-    /// The same volume.
-    pub fn copy(&self) -> Result<Volume, OutOfMemory>
-        ensures { IfOk result (λ volume. volume ≡ self.now) }
-    {
-        Ok(Volume {
-            total: self.total,
-            inodes: copy_inodes(&self.inodes)?,
-            bytes: self.bytes.copy()?,
-        })
-    }
 }

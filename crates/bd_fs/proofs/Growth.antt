@@ -8,7 +8,8 @@ use Rattle.std.proofs.lemmas.Option.{none-some}
 use Rattle.bd_base.specs.declared.limits.TheConstants.{BLOCK_SIZE, FILE_SIZE}
 use Rattle.bd_base.specs.declared.reason.Reason.TheVariants.{NoSpace, Extents, TooBig}
 use Rattle.bd_base.specs.declared.volume.Inode.{Inode}
-use Rattle.bd_base.specs.Allocation.{allocated, first_data_block, is_data_block, last_block, times_listed}
+use Rattle.bd_base.specs.Allocation.{allocated, is_data_block, last_block, times_listed}
+use Rattle.bd_base.specs.Files.{data_start}
 use Rattle.bd_base.specs.Extents.{extents_of}
 use Rattle.bd_base.specs.Files.{blocks_for}
 use Rattle.bd_base.specs.Inodes.{block_lists, block_refusal, blocks_at, file_at, grown, growth_block, growth_refusal, inode_at, is_free, without_last}
@@ -180,7 +181,7 @@ module _ (total : ℕ) (files : List (Option Inode)) (runs : List ℕ) (free : F
   owned_below_total =
       let is_data : IsTrue (is_data_block total (length files) block) =
       All-contains (λ b. IsTrue (is_data_block total (length files) b)) (file_at files id).blocks block (kept.valid.each id (file_at files id) (inode_at-file_at files id exists)).in_data_area owned in
-      rw kept.same_total (ltb-true block total (and_parts (nat_le (first_data_block (length files)) block) (nat_lt block total) is_data).1)
+      rw kept.same_total (ltb-true block total (and_parts (nat_le (data_start (length files)) block) (nat_lt block total) is_data).1)
 
   -- and not free
   pub owned_not_free : set.contains free.free block ≡ false

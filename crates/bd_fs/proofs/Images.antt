@@ -5,7 +5,8 @@ use Rattle.std.proofs.lemmas.List.{length-set}
 use Rattle.std.proofs.lemmas.Option.{none-some, same_Some}
 use Rattle.bd_base.specs.declared.limits.TheConstants.{PERMS}
 use Rattle.bd_base.specs.declared.volume.Inode.{Inode}
-use Rattle.bd_base.specs.Inodes.{AreFiles, AreValidFiles, IsName, free_id, inode_at}
+use Rattle.bd_base.specs.Inodes.{AreFiles, AreValidFiles, free_id, inode_at}
+use Rattle.bd_base.specs.Names.{IsName}
 use Rattle.bd_fs.specs.Files.{empty_file}
 use Rattle.bd_fs.proofs.FileLists.{inode_at-set_other, inode_at-set_same, inode_at-within}
 use Rattle.bd_fs.proofs.MadeAndRemoved.{free_id-free}

@@ -11,10 +11,10 @@ use Rattle.std.proofs.lemmas.List.{take_more, take_all, length-take, map_more, g
 use Rattle.std.proofs.lemmas.List.Sums.{sum_by_push, prefix_len-le-length}
 use Rattle.std.proofs.lemmas.List.Folds.{position_or_len_push}
 use Rattle.bd_base.specs.declared.volume.Inode.{Inode}
-use Rattle.bd_base.specs.Allocation.{first_data_block, is_data_block, last_block, times_listed}
+use Rattle.bd_base.specs.Allocation.{is_data_block, last_block, times_listed}
+use Rattle.bd_base.specs.Files.{data_start}
 use Rattle.bd_base.specs.Extents.{extents_of}
-use Rattle.bd_fs.specs.Files.{NamesDiffer}
-use Rattle.bd_base.specs.Inodes.{block_lists, blocks_at, has_name, id_of, inode_at, is_free}
+use Rattle.bd_base.specs.Inodes.{NamesDiffer, block_lists, blocks_at, has_name, id_of, inode_at, is_free}
 use Rattle.bd_extents.specs.FreeBlocks.{FreeBlocks}
 use Rattle.bd_extents.proofs.Marks.{contains-insert_nat}
 use Rattle.bd_fs.specs.Kept.{is_extent_start}
@@ -102,14 +102,14 @@ pub record FreeBelow (total : ℕ) (files : List (Option Inode)) (free : FreeBlo
   pub same_total : free.total ≡ total
   pub blocks : (b : ℕ) → set.contains free.free b ≡ (nat_lt b number && is_free total files b)
 
-pub FreeBelow-none : (total : ℕ) (files : List (Option Inode)) (free : FreeBlocks) → free ≡ record { total = total; free = set.empty } → FreeBelow total files free (first_data_block (length files))
+pub FreeBelow-none : (total : ℕ) (files : List (Option Inode)) (free : FreeBlocks) → free ≡ record { total = total; free = set.empty } → FreeBelow total files free (data_start (length files))
 FreeBelow-none total files free is = rw is (record {
   same_total = refl;
-  blocks = λ b. set.contains-empty nat_cmp b ∙ elim (cases_lt b (first_data_block (length files))) [
+  blocks = λ b. set.contains-empty nat_cmp b ∙ elim (cases_lt b (data_start (length files))) [
     | inl below ↦
-        let no_data : is_free total files b ≡ false = and_left (is_data_block total (length files) b) (nat_eq (times_listed (block_lists files) b) 0) (and_left (nat_le (first_data_block (length files)) b) (nat_lt b total) (lt-leb (first_data_block (length files)) b below)) in
-        sym (and_right (nat_lt b (first_data_block (length files))) (is_free total files b) no_data)
-    | inr past ↦ sym (and_left (nat_lt b (first_data_block (length files))) (is_free total files b) (le-ltb b (first_data_block (length files)) past))
+        let no_data : is_free total files b ≡ false = and_left (is_data_block total (length files) b) (nat_eq (times_listed (block_lists files) b) 0) (and_left (nat_le (data_start (length files)) b) (nat_lt b total) (lt-leb (data_start (length files)) b below)) in
+        sym (and_right (nat_lt b (data_start (length files))) (is_free total files b) no_data)
+    | inr past ↦ sym (and_left (nat_lt b (data_start (length files))) (is_free total files b) (le-ltb b (data_start (length files)) past))
   ];
 })
 
@@ -124,14 +124,14 @@ lt-more b number other =
       | inr past ↦ le-ltb b number past ∙ sym (le-ltb b (number + 1) (omega arith))
     ]
 
-pub FreeBelow-free : (total : ℕ) (files : List (Option Inode)) (free left : FreeBlocks) (number : ℕ) → FreeBelow total files free number → first_data_block (length files) ≤ number → number < total → times_listed (block_lists files) number ≡ 0 → left ≡ record { total = free.total; free = set.insert free.free number } → FreeBelow total files left (number + 1)
+pub FreeBelow-free : (total : ℕ) (files : List (Option Inode)) (free left : FreeBlocks) (number : ℕ) → FreeBelow total files free number → data_start (length files) ≤ number → number < total → times_listed (block_lists files) number ≡ 0 → left ≡ record { total = free.total; free = set.insert free.free number } → FreeBelow total files left (number + 1)
 FreeBelow-free total files free left number below from to unowned is = rw is (record {
   same_total = below.same_total;
   blocks = λ b. contains-insert_nat free.free number b ∙ elim (cases_eq b number) [
     | inl same ↦
         let here : is_free total files b ≡ true = subst (λ k. is_free total files k ≡ true) (sym same)
         (and_from (is_data_block total (length files) number) (nat_eq (times_listed (block_lists files) number) 0)
-        (and_from (nat_le (first_data_block (length files)) number) (nat_lt number total) (le-leb (first_data_block (length files)) number from) (lt-ltb number total to))
+        (and_from (nat_le (data_start (length files)) number) (nat_lt number total) (le-leb (data_start (length files)) number from) (lt-ltb number total to))
         (eq-eqb (times_listed (block_lists files) number) 0 unowned)) in
         rw (eq-eqb b number same) (sym (and_from (nat_lt b (number + 1)) (is_free total files b) (lt-ltb b (number + 1) (omega arith)) here))
     | inr other ↦ rw (ne_eqb b number other) (below.blocks b ∙ ap (λ t. t && is_free total files b) (lt-more b number other))
@@ -154,7 +154,7 @@ FreeBelow-all total files free number below end b =
     below.blocks b ∙ elim (cases_lt b number) [
       | inl inside ↦ ap (λ t. t && is_free total files b) (lt-ltb b number inside)
       | inr past ↦
-          let no_data : is_free total files b ≡ false = and_left (is_data_block total (length files) b) (nat_eq (times_listed (block_lists files) b) 0) (and_right (nat_le (first_data_block (length files)) b) (nat_lt b total) (le-ltb b total (omega arith))) in
+          let no_data : is_free total files b ≡ false = and_left (is_data_block total (length files) b) (nat_eq (times_listed (block_lists files) b) 0) (and_right (nat_le (data_start (length files)) b) (nat_lt b total) (le-ltb b total (omega arith))) in
           and_left (nat_lt b number) (is_free total files b) (le-ltb b number past) ∙ sym no_data
     ]
 

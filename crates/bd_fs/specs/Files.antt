@@ -1,8 +1,8 @@
 -- Files as plain data.
-use Rattle.std.specs.Prelude.{◌≡◌, ℕ, Option, Some, List, [], slice_set}
+use Rattle.std.specs.Prelude.{ℕ, Option, List, [], slice_set}
 use Rattle.bd_base.specs.declared.reason.Reason.{Reason}
 use Rattle.bd_base.specs.declared.volume.Inode.{Inode}
-use Rattle.bd_base.specs.Inodes.{file_at, growth_block, growth_refusal, inode_at}
+use Rattle.bd_base.specs.Inodes.{file_at, growth_block, growth_refusal}
 
 -- how many blocks there are, and the files by their ids
 pub record Files : Type 0 where
@@ -24,11 +24,6 @@ growth_block_of fs id = growth_block fs.total fs.files (file_of fs id)
 -- why the file does not grow to this larger size
 abbrev pub refusal_of : Files → ℕ → ℕ → Option Reason
 refusal_of fs id to = growth_refusal fs.total fs.files (file_of fs id) to
-
--- no two files have one name
-abbrev pub NamesDiffer : List (Option Inode) → Type 0
-NamesDiffer files =
-    (i j : ℕ) (file other : Inode) → inode_at files i ≡ Some file → inode_at files j ≡ Some other → file.name ≡ other.name → i ≡ j
 
 -- a file that was made
 abbrev pub empty_file : List ℕ → ℕ → ℕ → Inode

@@ -1,8 +1,8 @@
 -- An accepted volume has the files of an image, and the bytes of all its blocks.
-use Rattle.std.proofs.Common.{◌≡◌, ◌≤◌, ◌<◌, ◌+◌, ◌*◌, inl, inr, ℕ, zero, suc, Bool, true, ◌⊎◌, ◌&&◌, ◌||◌, nat_eq, nat_le, nat_lt, IsTrue, List, Option, None, Some, get_or, length, map, drop, replicate, refl, ap, sym, subst, arith}
-use Rattle.std.proofs.lemmas.Bool.{and_from, eq-eqb, le-leb, lt-ltb, or_left, or_right}
+use Rattle.std.proofs.Common.{◌≡◌, ◌≤◌, ◌<◌, ◌+◌, ◌*◌, ℕ, zero, suc, nat_le, nat_lt, IsTrue, List, Option, None, Some, get_or, length, map, drop, replicate, refl, ap, sym, subst, arith}
+use Rattle.std.proofs.lemmas.Bool.{and_from, le-leb, lt-ltb}
 use Rattle.std.proofs.lemmas.List.{length-append, length-drop, length-replicate}
-use Rattle.std.proofs.lemmas.List.Elements.{All-append, All-from_get_or, All-nil, All-weaker}
+use Rattle.std.proofs.lemmas.List.Elements.{All-append, All-from_get_or, All-nil}
 use Rattle.std.proofs.lemmas.List.FromFn.{get_or-range_with_len, length-map-range_with_len, length-range_with_len}
 use Rattle.std.specs.List.{All, range_with_len}
 use Rattle.std.specs.Option.{IfSome}
@@ -12,9 +12,8 @@ use Rattle.bd_base.specs.declared.volume.Volume.{Volume}
 use Rattle.bd_base.specs.Allocation.{is_data_block}
 use Rattle.bd_base.specs.Extents.{blocks_of, extents_of}
 use Rattle.bd_base.specs.Files.{data_start}
-use Rattle.bd_base.specs.Inodes.{AreFiles, IsValidFile, is_name_byte}
-use Rattle.bd_base.specs.Inodes as base
-use Rattle.bd_base.specs.Names.{IsName, IsNameByte}
+use Rattle.bd_base.specs.Inodes.{AreFiles, IsValidFile}
+use Rattle.bd_base.specs.Names.{IsName}
 use Rattle.bd_image.specs.Layout.{IsUsed, block_count, blocks_at, extent_at, extent_count, inode_count, name_at, name_field}
 use Rattle.bd_image.specs.Limits.{FitsRecord, IsWithinLimits}
 use Rattle.bd_image.specs.Rules.{Accepted, IsInDataArea, BlockCount, ExtentCount, ExtentJoins, ExtentRange, ExtentShares, InodeCount, Length, NameForm, NameFresh, Perms, Size}
@@ -36,33 +35,6 @@ All-blocks_of P f (suc n) a each =
     let within : k < (f a).length = omega (arith, low, length-range_with_len (f a).start (f a).length) in
     rw (get_or-range_with_len (f a).start (f a).length k 0 within) (each a ((f a).start + k) (omega arith) (omega arith) (omega arith) (omega arith))))
     (All-blocks_of P f n (a + 1) (λ e x low high. each e x (omega arith) (omega arith)))
-
--- one of five tests holds
-one_of_five : (a b c d e : Bool) → (a ≡ true) ⊎ ((b ≡ true) ⊎ ((c ≡ true) ⊎ ((d ≡ true) ⊎ (e ≡ true)))) → (a || b || c || d || e) ≡ true
-one_of_five a b c d e (inl h) = or_left (a || b || c || d) e (or_left (a || b || c) d (or_left (a || b) c (or_left a b h)))
-one_of_five a b c d e (inr (inl h)) = or_left (a || b || c || d) e (or_left (a || b || c) d (or_left (a || b) c (or_right a b h)))
-one_of_five a b c d e (inr (inr (inl h))) = or_left (a || b || c || d) e (or_left (a || b || c) d (or_right (a || b) c h))
-one_of_five a b c d e (inr (inr (inr (inl h)))) = or_left (a || b || c || d) e (or_right (a || b || c) d h)
-one_of_five a b c d e (inr (inr (inr (inr h)))) = or_right (a || b || c || d) e h
-
--- a byte of a name passes the test of such bytes
-is_name_byte-from : (c : ℕ) → IsNameByte c → IsTrue (is_name_byte c)
-is_name_byte-from c h =
-    one_of_five (nat_le 97 c && nat_le c 122) (nat_le 48 c && nat_le c 57) (nat_eq c 46) (nat_eq c 95) (nat_eq c 45) (elim h [
-      | inl letter ↦ inl (and_from (nat_le 97 c) (nat_le c 122) (le-leb 97 c letter.0) (le-leb c 122 letter.1))
-      | inr (inl digit) ↦ inr (inl (and_from (nat_le 48 c) (nat_le c 57) (le-leb 48 c digit.0) (le-leb c 57 digit.1)))
-      | inr (inr (inl dot)) ↦ inr (inr (inl (eq-eqb c 46 dot)))
-      | inr (inr (inr (inl underscore))) ↦ inr (inr (inr (inl (eq-eqb c 95 underscore))))
-      | inr (inr (inr (inr dash))) ↦ inr (inr (inr (inr (eq-eqb c 45 dash))))
-    ])
-
--- a name by its bytes is one by the test of its bytes
-IsName-from : (name : List ℕ) → IsName name → base.IsName name
-IsName-from name is = record {
-  not_empty = is.least;
-  short = is.most;
-  bytes = All-weaker IsNameByte (λ c. IsTrue (is_name_byte c)) is_name_byte-from name is.bytes;
-}
 
 -- the file of a used record
 valid-file : (b : List ℕ) (j : ℕ) → Accepted b → IsUsed b j → IsValidFile (block_count b) (inode_count b) (file_at b j)
@@ -104,10 +76,10 @@ AreFiles-inodes_of b h =
       enough_blocks = omega arith;
       some_room = omega (arith, long, (h InodeCount).least);
       whole_blocks = rw long (h InodeCount).whole_blocks;
-      names = each-file b (λ file. base.IsName file.name)
+      names = each-file b (λ file. IsName file.name)
           (λ j used.
           let found : name_at b j ≡ (h NameForm j used).name = name-found (name_field b j) (h NameForm j used) in
-          subst base.IsName (sym found) (IsName-from (h NameForm j used).name (h NameForm j used).is_name));
+          subst IsName (sym found) (h NameForm j used).is_name);
       perms = each-file b (λ file. file.perms < 16) (λ j used. omega (arith, h Perms j used));
     }
 
@@ -134,6 +106,6 @@ AreFiles-fit total files are = All-from_get_or (λ file. IfSome file FitsRecord)
     fits : (file : Option Inode) (id : ℕ) → get_or files id None ≡ file → IfSome file FitsRecord
     fits None id at = tt
     fits (Some file) id at = record {
-      name = omega (arith, (are.names id file at).short);
+      name = omega (arith, (are.names id file at).most);
       extents = (are.valid.each id file at).few_extents;
     }

@@ -12,8 +12,7 @@ use Rattle.bd_base.specs.declared.script.Process.{Process}
 use Rattle.bd_base.specs.declared.script.Script.{Script}
 use Rattle.bd_base.specs.Extents.{extents_of}
 use Rattle.bd_base.specs.Files.{blocks_for, data_start, limit_of, parts_for}
-use Rattle.bd_base.specs.Inodes.{blocks_at, inode_at}
-use Rattle.bd_fs.specs.Files.{NamesDiffer}
+use Rattle.bd_base.specs.Inodes.{NamesDiffer, blocks_at, inode_at}
 use Rattle.bd_machine.specs.declared.entry.Entry.{Entry}
 use Rattle.bd_machine.specs.declared.entry.Entry.TheVariants.{Attached}
 

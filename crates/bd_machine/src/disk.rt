@@ -3,7 +3,7 @@ ghost use Rattle.std.specs.Prelude.{◌≡◌, IfOk};
 ghost use Rattle.std.specs.Option.{option_copied};
 ghost use Rattle.bd_base.specs.Inodes.{AreValidFiles, id_of, inode_at};
 
-use bd_base::{Bytes, FileId, Inode, InodeList, List, Name, OutOfMemory, Volume};
+use bd_base::{Bytes, FileId, Inode, Name, OutOfMemory, Volume, copy_inodes};
 use bd_fs::Fs;
 use std::alloc::Global;
 use std::marker::Model;
@@ -70,25 +70,4 @@ impl Disk {
             bytes: self.bytes.copy()?,
         })
     }
-}
-
-/// The same file in a slot.
-fn copy_slot(slot: &Option<Inode>) -> Result<Option<Inode>, OutOfMemory>
-    ensures { IfOk result (λ copy. copy ≡ slot.now) }
-{
-    match slot {
-        Some(file) => Ok(Some(file.copy()?)),
-        None => Ok(None),
-    }
-}
-
-/// The same files.
-pub(crate) fn copy_inodes(alloc: Global, inodes: &[Option<Inode>]) -> Result<InodeList, OutOfMemory>
-    ensures { IfOk result (λ copy. copy ≡ inodes.now) }
-{
-    let mut copy = List::with_capacity(alloc, inodes.len())?;
-    for slot in inodes {
-        copy.push(copy_slot(slot)?)?;
-    }
-    Ok(copy)
 }

@@ -6,7 +6,8 @@ use Rattle.std.proofs.lemmas.List.Elements.{All-map}
 use Rattle.std.proofs.lemmas.List.Sums.{sum_by-cons, sum_by-take-le}
 use Rattle.std.specs.List.{range_with_len, sum_by}
 use Rattle.bd_base.specs.declared.volume.Inode.{Inode}
-use Rattle.bd_base.specs.Allocation.{first_data_block, is_data_block, is_free_block, times_listed}
+use Rattle.bd_base.specs.Allocation.{is_data_block, is_free_block, times_listed}
+use Rattle.bd_base.specs.Files.{data_start}
 use Rattle.bd_base.specs.Inodes.{AreFiles, block_lists, blocks_at, inode_at, is_free}
 
 -- ---- sums
@@ -103,16 +104,16 @@ skip_zeros f (suc k) (suc m) n a b m_is b_is zeros =
     omega (arith, sum_by-cons f a (range_with_len (a + 1) m), first, rest)
 
 -- a block of the metadata is not free
-metadata_not_free : (total capacity : ℕ) (lists : List (List ℕ)) (x : ℕ) → x < first_data_block capacity → one_if (is_free_block total capacity lists x) ≡ 0
+metadata_not_free : (total capacity : ℕ) (lists : List (List ℕ)) (x : ℕ) → x < data_start capacity → one_if (is_free_block total capacity lists x) ≡ 0
 metadata_not_free total capacity lists x low =
-    let before : nat_le (first_data_block capacity) x ≡ false = lt-leb (first_data_block capacity) x low in
+    let before : nat_le (data_start capacity) x ≡ false = lt-leb (data_start capacity) x low in
     rw before refl
 
 -- a data block that is in at most one place is free or in one place
-free_or_owned : (total capacity : ℕ) (lists : List (List ℕ)) (x : ℕ) → first_data_block capacity ≤ x → x < total → times_listed lists x ≤ 1
+free_or_owned : (total capacity : ℕ) (lists : List (List ℕ)) (x : ℕ) → data_start capacity ≤ x → x < total → times_listed lists x ≤ 1
     → one_if (is_free_block total capacity lists x) + times_listed lists x ≡ 1
 free_or_owned total capacity lists x low high few =
-    let start : nat_le (first_data_block capacity) x ≡ true = le-leb (first_data_block capacity) x low in
+    let start : nat_le (data_start capacity) x ≡ true = le-leb (data_start capacity) x low in
     let end : nat_lt x total ≡ true = lt-ltb x total high in
     elim (cases_eq (times_listed lists x) 0) [
       | inl none ↦
@@ -128,25 +129,25 @@ both_true true b is = (refl, is)
 both_true false b is = absurd (false≢true is)
 
 -- a data block is between the ends of the data area
-pub within_area : (total capacity x : ℕ) → IsTrue (is_data_block total capacity x) → (first_data_block capacity ≤ x) × (x < total)
+pub within_area : (total capacity x : ℕ) → IsTrue (is_data_block total capacity x) → (data_start capacity ≤ x) × (x < total)
 within_area total capacity x is =
-    let ends : (nat_le (first_data_block capacity) x ≡ true) × (nat_lt x total ≡ true) = both_true (nat_le (first_data_block capacity) x) (nat_lt x total) is in
-    (leb-true (first_data_block capacity) x ends.0, ltb-true x total ends.1)
+    let ends : (nat_le (data_start capacity) x ≡ true) × (nat_lt x total ≡ true) = both_true (nat_le (data_start capacity) x) (nat_lt x total) is in
+    (leb-true (data_start capacity) x ends.0, ltb-true x total ends.1)
 
 -- the blocks of a file are in the data area
-slot_within : (total : ℕ) (files : List (Option Inode)) → AreFiles total files → (n i : ℕ) → total ≡ first_data_block (length files) + n
-    → (slot : Option Inode) → inode_at files i ≡ slot → All (λ b. (first_data_block (length files) ≤ b) × (b < first_data_block (length files) + n)) (blocks_at slot)
+slot_within : (total : ℕ) (files : List (Option Inode)) → AreFiles total files → (n i : ℕ) → total ≡ data_start (length files) + n
+    → (slot : Option Inode) → inode_at files i ≡ slot → All (λ b. (data_start (length files) ≤ b) × (b < data_start (length files) + n)) (blocks_at slot)
 slot_within total files are n i all None is = λ j d lt. absurd (omega (arith, lt))
 slot_within total files are n i all (Some file) is = λ j d lt.
-    let within : (first_data_block (length files) ≤ get_or file.blocks j d) × (get_or file.blocks j d < total) =
+    let within : (data_start (length files) ≤ get_or file.blocks j d) × (get_or file.blocks j d < total) =
     within_area total (length files) (get_or file.blocks j d) ((are.valid.each i file is).in_data_area j d lt) in
     (within.0, omega (arith, within.1, all))
 
 -- the free blocks, those of files and those of the metadata are all
 pub free_and_owned : (total : ℕ) (files : List (Option Inode)) → AreFiles total files
-    → count_by (is_free total files) (range_with_len 0 total) + sum_by (λ slot. length (blocks_at slot)) files + first_data_block (length files) ≡ total
+    → count_by (is_free total files) (range_with_len 0 total) + sum_by (λ slot. length (blocks_at slot)) files + data_start (length files) ≡ total
 free_and_owned total files are =
-    let start : ℕ = first_data_block (length files) in
+    let start : ℕ = data_start (length files) in
     let few : start ≤ total = omega (arith, are.enough_blocks, are.valid.few_files) in
     let lists : List (List ℕ) = block_lists files in
     let free : ℕ → ℕ = λ x. one_if (is_free total files x) in

@@ -6,8 +6,7 @@ ghost use Rattle.indexmap.specs.IndexMap.{get_by};
 ghost use Rattle.bd_base.specs.declared.limits.TheConstants.{BLOCKS, FILES};
 ghost use Rattle.bd_base.specs.Allocation.{times_listed};
 ghost use Rattle.bd_base.specs.Extents.{extents_of};
-ghost use Rattle.bd_fs.specs.Files.{NamesDiffer};
-ghost use Rattle.bd_base.specs.Inodes.{AreValidFiles, block_lists, blocks_at, id_of, inode_at, is_free, most_extents};
+ghost use Rattle.bd_base.specs.Inodes.{AreValidFiles, NamesDiffer, block_lists, blocks_at, id_of, inode_at, is_free, most_extents};
 
 use super::Fs;
 use super::growth::begins_extent;

@@ -4,8 +4,7 @@ ghost use Rattle.bd_base.specs.declared.limits.TheConstants.{BLOCKS, FILE_SIZE};
 ghost use Rattle.bd_base.specs.Inodes.{AreValidFiles, file_at, inode_at};
 ghost use Rattle.bd_base.specs.Volumes.{IsVolume};
 
-use crate::disk::copy_inodes;
-use bd_base::{FILE_SIZE, FileId, InodeList, List, OutOfMemory, Volume};
+use bd_base::{FILE_SIZE, FileId, InodeList, List, OutOfMemory, Volume, copy_inodes};
 use bd_fs::Fs;
 use std::alloc::Global;
 use std::process::Abort;

@@ -1,6 +1,0 @@
-use Rattle.std.proofs.Common.{◌≡◌, take}
-use Rattle.bd_machine.proofs.disk.copy_inodes.Given as goal
-
--- the files copied so far
-abbrev pub invariant-loop-slot : goal.invariant-loop-slot
-invariant-loop-slot l = l.copy ≡ take l.slot-index l.inodes
