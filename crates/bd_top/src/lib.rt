@@ -15,3 +15,6 @@ pub use program::top;
 pub use replay::replay_all;
 pub use status::{Outcome, Status, To, Which, code, fault_text};
 pub use words::{Command, read_words};
+
+#[cfg(test)]
+mod tests;
