@@ -15,6 +15,7 @@ byte_at b place = slice_index b place
 abbrev pub number_at : ℕ → List ℕ → ℕ → ℕ
 number_at bytes b place = little_number bytes (drop place b)
 
+-- the version of the format
 abbrev pub version : List ℕ → ℕ
 version b = number_at 4 b VERSION_PLACE
 
@@ -38,6 +39,7 @@ used_mark b j = byte_at b (record_place j)
 abbrev pub IsUsed : List ℕ → ℕ → Type 0
 IsUsed b j = (j < inode_count b) × (used_mark b j ≡ 1)
 
+-- the permission bits of the file of record j
 abbrev pub perms_at : List ℕ → ℕ → ℕ
 perms_at b j = byte_at b (record_place j + 1)
 
@@ -45,9 +47,11 @@ perms_at b j = byte_at b (record_place j + 1)
 abbrev pub extent_count : List ℕ → ℕ → ℕ
 extent_count b j = number_at 2 b (record_place j + 2)
 
+-- the uid of its owner
 abbrev pub owner_at : List ℕ → ℕ → ℕ
 owner_at b j = number_at 4 b (record_place j + OWNER_FIELD)
 
+-- its size in bytes
 abbrev pub size_at : List ℕ → ℕ → ℕ
 size_at b j = number_at 8 b (record_place j + SIZE_FIELD)
 
@@ -63,6 +67,7 @@ name_at b j = take_while (λ c. not (nat_eq c 0)) (name_field b j)
 abbrev pub extent_place : ℕ → ℕ → ℕ
 extent_place j e = record_place j + EXTENTS_FIELD + EXTENT_BYTES * e
 
+-- extent e of record j: its first block and its length
 abbrev pub extent_at : List ℕ → ℕ → ℕ → Extent
 extent_at b j e = record { start = number_at 4 b (extent_place j e); length = number_at 4 b (extent_place j e + 4) }
 

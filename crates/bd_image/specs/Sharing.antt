@@ -1,5 +1,6 @@
 -- Blocks that extents share.
-use Rattle.std.specs.Prelude.{◌≡◌, ℕ, ◌+◌, ◌<◌, ◌≤◌, ◌↔◌, ◌⊎◌, Bool, false, List, length, slice_index_or, Contains, IsTrue}
+use Rattle.std.specs.Prelude.{◌≡◌, ℕ, ◌+◌, ◌*◌, ◌<◌, ◌≤◌, ◌↔◌, ◌⊎◌, Bool, false, List, length, slice_index_or, Contains, IsTrue}
+use Rattle.bd_base.specs.declared.limits.TheConstants.{BLOCK_SIZE}
 use Rattle.bd_base.specs.declared.volume.Extent.{Extent}
 use Rattle.bd_base.specs.Files.{data_start}
 use Rattle.bd_image.specs.Layout.{block_count, blocks_at, extent_at, extent_count, inode_count, used_mark}
@@ -43,10 +44,10 @@ pub record SharesNoneAndMarks (b : List ℕ) (taken : List Bool) (j : ℕ) : Typ
 
 -- the map marks each block that is taken, and no others
 pub record MarksTaken (b : List ℕ) (taken : List Bool) : Type 0 where
-  pub long : length taken ≡ 32768
-  pub marks : (x : ℕ) → x < 32768 → IsTakenIn taken x ↔ IsTaken b x
+  pub long : length taken ≡ 8 * BLOCK_SIZE
+  pub marks : (x : ℕ) → x < 8 * BLOCK_SIZE → IsTakenIn taken x ↔ IsTaken b x
 
 -- the map marks the metadata and the blocks of the files among the first j records
 pub record MarksFiles (b : List ℕ) (taken : List Bool) (j : ℕ) : Type 0 where
-  pub long : length taken ≡ 32768
-  pub marks : (x : ℕ) → x < 32768 → IsTakenIn taken x ↔ ((x < data_start (inode_count b)) ⊎ ((i : ℕ) × (i < j) × (used_mark b i ≡ 1) × Contains (blocks_at b i) x))
+  pub long : length taken ≡ 8 * BLOCK_SIZE
+  pub marks : (x : ℕ) → x < 8 * BLOCK_SIZE → IsTakenIn taken x ↔ ((x < data_start (inode_count b)) ⊎ ((i : ℕ) × (i < j) × (used_mark b i ≡ 1) × Contains (blocks_at b i) x))

@@ -60,6 +60,7 @@ bitmap_front n inodes = map (λ i. bitmap_byte inodes (8 * i)) (range_with_len 0
 abbrev pub bitmap_bytes : List (Option Inode) → List ℕ
 bitmap_bytes inodes = bitmap_front BLOCK_SIZE inodes
 
+-- the eight bytes of an extent
 abbrev pub extent_bytes : Extent → List ℕ
 extent_bytes e = little_bytes 4 e.start ++ little_bytes 4 e.length
 

@@ -1,5 +1,6 @@
 //! Bitmaps: a bit for each block.
 ghost use Rattle.std.specs.Prelude.{◌≡◌, ℕ, ◌+◌, ◌*◌, ◌^◌, ◌<◌, ◌≤◌, ◌||◌, nat_eq, length};
+ghost use Rattle.bd_base.specs.declared.limits.TheConstants.{BLOCKS};
 ghost use Rattle.std.specs.List.{list_any, range_with_len};
 ghost use Rattle.bd_base.specs.Bytes.{AreBytes};
 ghost use Rattle.bd_image.specs.Bits.{is_set};
@@ -29,7 +30,7 @@ pub(crate) fn mark_run(bits: &mut [u8], start: u64, count: u64)
 
 /// Sets the bits of blocks.
 pub(crate) fn mark_blocks(bits: &mut [u8], blocks: &[BlockNo])
-    requires { 16384 ≤ 8 * length bits.old }
+    requires { BLOCKS ≤ 8 * length bits.old }
     ensures marks { (y : ℕ) → is_set bits.new y ≡ (is_set bits.old y || list_any (nat_eq y) blocks.now) }
     ensures bytes { AreBytes bits.old → AreBytes bits.new }
 {

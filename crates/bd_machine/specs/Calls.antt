@@ -26,6 +26,7 @@ at_of (Attached at fd part) = at
 at_of (Mapped at fd count) = at
 at_of (Access at piece fd file index block range wrote way bytes) = at
 
+-- whether both are the same call of the same process
 abbrev pub same_call : At → At → Bool
 same_call a b = nat_eq a.process b.process && nat_eq a.call b.call
 

@@ -90,7 +90,7 @@ moving s at fd number piece =
     None)
     (descriptor_at s at.process fd)
 
--- the row and the entry of the next turn of this call, with these entries so far; None where this machine has no row for it
+-- the row and the entry of the next turn of this call, with these entries so far; None where there is none
 abbrev pub next_of_call : Store → At → Call → List Entry → Option (Row × Entry)
 next_of_call s at (Enter name mode how) entries =
     option_map_or

@@ -65,6 +65,7 @@ IsOfCall (Read call_fd off len) entries (Access at piece fd file index block ran
     (fd ≡ call_fd) × (slice_get (pieces off len) piece ≡ Some (record { index = index; range = range })) × (wrote ≡ false) × (way ≡ ways.Direct)
 IsOfCall (Read call_fd off len) entries entry = ⊥
 
+-- whether the entry tells of an open that began
 abbrev pub is_opened : Entry → Bool
 is_opened (Opened at file fd mode how) = true
 is_opened entry = false

@@ -70,12 +70,15 @@ call_number n = record { process = 0; call = n }
 abbrev pub part_total : {v : Volume} {w : Wish} → Grants v w → ℕ
 part_total g = parts_for (length g.inode.blocks)
 
+-- the entry of the open that begins
 abbrev pub opened_entry : {v : Volume} {w : Wish} → Grants v w → Entry
 opened_entry g = Opened (call_number 0) g.file 0 R hows.Direct
 
+-- the entry of the right on a part
 abbrev pub attached_entry : ℕ → Entry
 attached_entry part = Attached (call_number 0) 0 part
 
+-- the entry of the open that ends, with all parts attached
 abbrev pub mapped_entry : {v : Volume} {w : Wish} → Grants v w → Entry
 mapped_entry g = Mapped (call_number 0) 0 (part_total g)
 
@@ -114,12 +117,14 @@ open_at g Reading =
 open_at g Over =
     Some (record { file = g.file; mode = R; how = hows.Direct; attached = part_total g; known = g.inode.size; told = g.inode.size })
 
+-- how many calls have ended
 abbrev pub ended_at : Phase → ℕ
 ended_at Before = 0
 ended_at (Attaching attached) = 0
 ended_at Reading = 1
 ended_at Over = 2
 
+-- how many effective turns the running call has taken
 abbrev pub used_at : Phase → ℕ
 used_at Before = 0
 used_at (Attaching attached) = attached + 1

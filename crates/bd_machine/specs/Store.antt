@@ -1,8 +1,8 @@
 -- The plain store: files as lists of blocks, the bytes of all blocks, and descriptors with sets of rights.
-use Rattle.std.specs.Prelude.{◌≡◌, ◌≢◌, ℕ, ◌+◌, ◌*◌, ◌<◌, ◌≤◌, nat_eq, nat_lt, cond, Bool, false, ◌&&◌, not, List, [], ◌∷◌, map, filter, length, slice_index_or, slice_set, Option, None, Some, IsSome, All, Contains, IsTrue, true, ◌||◌, ◌/◌, ◌%◌, replicate}
+use Rattle.std.specs.Prelude.{◌≡◌, ◌≢◌, ℕ, ◌+◌, ◌*◌, ◌<◌, ◌≤◌, nat_eq, nat_lt, cond, Bool, false, ◌&&◌, not, List, [], ◌∷◌, map, filter, length, slice_index_or, slice_set, Option, None, Some, IsSome, All, IsTrue, true, ◌||◌, ◌/◌, ◌%◌, replicate}
 use Rattle.std.specs.Option.{option_and_then, option_map_or}
 use Rattle.std.specs.List.{find, flat_map, list_any, position_from, range_with_len}
-use Rattle.bd_base.specs.declared.limits.TheConstants.{BLOCK_SIZE, FILE_SIZE, FRAGMENTS, DESCRIPTORS}
+use Rattle.bd_base.specs.declared.limits.TheConstants.{BLOCK_SIZE, FRAGMENTS, DESCRIPTORS}
 use Rattle.bd_base.specs.declared.volume.Inode.{Inode}
 use Rattle.bd_base.specs.declared.volume.Volume.{Volume}
 use Rattle.bd_base.specs.declared.script.How.{How}
@@ -10,9 +10,8 @@ use Rattle.bd_base.specs.declared.script.How.TheVariants.{Plain, Direct}
 use Rattle.bd_base.specs.declared.script.Mode.{Mode}
 use Rattle.bd_base.specs.declared.script.Process.{Process}
 use Rattle.bd_base.specs.declared.script.Script.{Script}
-use Rattle.bd_base.specs.Extents.{extents_of}
-use Rattle.bd_base.specs.Files.{blocks_for, data_start, limit_of, parts_for}
-use Rattle.bd_base.specs.Inodes.{NamesDiffer, blocks_at, inode_at}
+use Rattle.bd_base.specs.Files.{limit_of, parts_for}
+use Rattle.bd_base.specs.Inodes.{AreValidFiles, blocks_at, inode_at}
 use Rattle.bd_machine.specs.declared.entry.Entry.{Entry}
 use Rattle.bd_machine.specs.declared.entry.Entry.TheVariants.{Attached}
 
@@ -39,6 +38,7 @@ pub record Store : Type 0 where
 abbrev pub in_slot : {X : Type 0} → List (Option X) → ℕ → Option X
 in_slot slots i = slice_index_or slots i None
 
+-- the file with this id
 abbrev pub file_at : Store → ℕ → Option Inode
 file_at s file = inode_at s.files file
 
@@ -46,6 +46,7 @@ file_at s file = inode_at s.files file
 abbrev pub size_at : List (Option Inode) → ℕ → ℕ
 size_at files file = option_map_or (λ (f : Inode). f.size) (inode_at files file) 0
 
+-- the same in a store
 abbrev pub size_of : Store → ℕ → ℕ
 size_of s file = size_at s.files file
 
@@ -65,6 +66,7 @@ parts_in s file = parts_for (length (blocks_in s file))
 abbrev pub slots_of : Store → ℕ → List (Option Descriptor)
 slots_of s process = slice_index_or s.opens process []
 
+-- the descriptor of a process with this number
 abbrev pub descriptor_at : Store → ℕ → ℕ → Option Descriptor
 descriptor_at s process fd = in_slot (slots_of s process) fd
 
@@ -72,24 +74,12 @@ descriptor_at s process fd = in_slot (slots_of s process) fd
 abbrev pub work_of : Store → ℕ → List Entry
 work_of s process = slice_index_or s.work process []
 
--- a block of the data area that no file owns
-pub record IsFree (s : Store) (block : ℕ) : Type 0 where
-  pub in_data_area : data_start (length s.files) ≤ block
-  pub below_end : block < s.total
-  pub of_no_file : (file : ℕ) → ¬ Contains (blocks_in s file) block
-
--- the process has a right on this part of this file, by this descriptor
-pub record HasRight (s : Store) (process fd file part : ℕ) : Type 0 where
-  pub descriptor : Descriptor
-  pub is_open : descriptor_at s process fd ≡ Some descriptor
-  pub of_file : descriptor.file ≡ file
-  pub attached : Contains descriptor.attached part
-
 -- the part joins a set of parts
 abbrev pub with_part : ℕ → List ℕ → List ℕ
 with_part part [] = part ∷ []
 with_part part (x ∷ xs) = cond (nat_lt part x) (part ∷ x ∷ xs) (cond (nat_eq part x) (x ∷ xs) (x ∷ with_part part xs))
 
+-- whether the part is among these
 abbrev pub has_part : ℕ → List ℕ → Bool
 has_part part parts = list_any (nat_eq part) parts
 
@@ -140,6 +130,7 @@ next_part s d =
     (λ part. cond (not (has_plain s d.file) && has_fragment s d.file part) (Some part) None)
     (lowest_unattached s d)
 
+-- whether a slot holds no descriptor
 abbrev pub is_empty_slot : Option Descriptor → Bool
 is_empty_slot None = true
 is_empty_slot (Some d) = false
@@ -156,20 +147,10 @@ with_slot s process fd slot = record s { opens = slice_set s.opens process (slic
 abbrev pub with_work : Store → ℕ → List Entry → Store
 with_work s process entries = record s { work = slice_set s.work process entries }
 
--- what a file of a valid store is
-pub record IsFile (f : Inode) : Type 0 where
-  pub size : f.size ≤ FILE_SIZE
-  pub blocks : length f.blocks ≡ blocks_for f.size
-  pub runs : length (extents_of f.blocks) ≤ 24
-
--- what the files of a valid store are, with the number and the bytes of its blocks
+-- what the files of a valid store are, with the number and the bytes of its blocks: valid files, of which the last blocks are zero past the size
 pub record HasSoundFiles (total : ℕ) (files : List (Option Inode)) (bytes : List ℕ) : Type 0 where
-  pub sound : (id : ℕ) (f : Inode) → inode_at files id ≡ Some f → IsFile f
-  pub in_area : (id block : ℕ) → Contains (blocks_at (inode_at files id)) block → (data_start (length files) ≤ block) × (block < total)
-  pub disjoint : (i j block : ℕ) → Contains (blocks_at (inode_at files i)) block → Contains (blocks_at (inode_at files j)) block → i ≡ j
-  pub once : (id i j d : ℕ) → i < length (blocks_at (inode_at files id)) → j < length (blocks_at (inode_at files id)) → slice_index_or (blocks_at (inode_at files id)) i d ≡ slice_index_or (blocks_at (inode_at files id)) j d → i ≡ j
+  pub valid : AreValidFiles total files
   pub tails : (id i d : ℕ) → size_at files id ≤ i → i < BLOCK_SIZE * length (blocks_at (inode_at files id)) → slice_index_or bytes (BLOCK_SIZE * slice_index_or (blocks_at (inode_at files id)) (i / BLOCK_SIZE) d + i % BLOCK_SIZE) 0 ≡ 0
-  pub names : NamesDiffer files
 
 -- each process has a row of descriptors, each row as many slots as a process has numbers for them, and a row for its running call
 pub record HasRows (s : Store) : Type 0 where
@@ -190,7 +171,7 @@ pub record IsDescriptor (s : Store) (process fd : ℕ) (d : Descriptor) : Type 0
   pub sizes : d.attached ≢ [] → list_any (attaches_by fd) (work_of s process) ≡ false → (d.known ≤ size_of s d.file) × (d.told ≤ size_of s d.file)
   pub direct : d.attached ≢ [] → (d.how ≡ Direct) × (has_plain s d.file ≡ false)
 
--- what every store that a legal journal leads to is
+-- what a store is that the steps of running calls keep
 pub record Valid (s : Store) : Type 0 where
   pub files : HasSoundFiles s.total s.files s.bytes
   pub rows : HasRows s

@@ -1,5 +1,6 @@
 //! Running a machine to its end: its actors take turns in rounds.
 ghost use Rattle.std.specs.Prelude.{◌≡◌, ◌+◌, ◌-◌, ◌*◌, ◌<◌, ◌≤◌, ◌^◌, ℕ, [], false, IfOk, OnOk};
+ghost use Rattle.bd_base.specs.declared.limits.TheConstants.{ACTORS};
 ghost use Rattle.bd_base.specs.Inodes.{AreValidFiles};
 ghost use Rattle.bd_base.specs.Volumes.{IsVolume};
 ghost use Rattle.bd_machine.specs.Course.{IsCourse, actor_count};
@@ -16,7 +17,7 @@ use std::alloc::Global;
 /// One round: a turn of each actor in order, up to the first before which all calls have ended.
 fn take_round(machine: &mut Machine, actors: u64) -> Result<(), OutOfMemory>
     requires actors { actors ≡ actor_count machine.old.state.script }
-    requires few { actors ≤ 33 }
+    requires few { actors ≤ ACTORS }
     requires start { IsRoundStart machine.old }
     ensures { OnOk result (EndsRound machine.old machine.new) }
 {

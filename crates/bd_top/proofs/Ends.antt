@@ -1,5 +1,5 @@
 -- What the end of a command means tells when it comes.
-use Rattle.std.proofs.Common.{◌≡◌, ℕ, List, Option, Some, refl, sym, subst, inl, inr}
+use Rattle.std.proofs.Common.{◌≡◌, ℕ, List, [], Option, Some, refl, sym, subst, inl, inr}
 use Rattle.bd_base.specs.declared.volume.Volume.{Volume}
 use Rattle.bd_image.specs.Rules.{Accepted, Broken}
 use Rattle.bd_image.specs.Volumes.{volume_of}
@@ -18,15 +18,15 @@ use Rattle.bd_top.specs.Totals.{check_line}
 
 -- ---- from the end to when it comes
 
--- what was read of bytes that were told
-image_told : (i : Reading) (v : Volume) (b : List ℕ) → i.left ≡ Some b → IsImageRead i.left v → Accepted b
-image_told i v b left read = let fact : ForTold (Some b) (λ bytes. Accepted bytes × (v ≡ volume_of bytes)) = subst (λ l. ForTold l (λ bytes. Accepted bytes × (v ≡ volume_of bytes))) left read.1 in fact.0
-
-volume_told : (i : Reading) (v : Volume) (b : List ℕ) → i.left ≡ Some b → IsImageRead i.left v → v ≡ volume_of b
-volume_told i v b left read = let fact : ForTold (Some b) (λ bytes. Accepted bytes × (v ≡ volume_of bytes)) = subst (λ l. ForTold l (λ bytes. Accepted bytes × (v ≡ volume_of bytes))) left read.1 in fact.1
-
 told : (left : Option (List ℕ)) (b : List ℕ) (P : List ℕ → Type 0) → left ≡ Some b → ForTold left P → P b
 told left b P is fact = let there : ForTold (Some b) P = subst (λ l. ForTold l P) is fact in there
+
+-- what was read of bytes that were told
+image_told : (i : Reading) (v : Volume) (b : List ℕ) → i.left ≡ Some b → IsImageRead i v → Accepted b
+image_told i v b left read = (told i.left b (λ bytes. Accepted bytes × (v ≡ volume_of bytes) × (i.remains ≡ Some [])) left read.1).0
+
+volume_told : (i : Reading) (v : Volume) (b : List ℕ) → i.left ≡ Some b → IsImageRead i v → v ≡ volume_of b
+volume_told i v b left read = (told i.left b (λ bytes. Accepted bytes × (v ≡ volume_of bytes) × (i.remains ≡ Some [])) left read.1).1
 
 -- the laws of refusals
 abbrev pub NotAccepted : Type 0
@@ -36,7 +36,7 @@ abbrev pub OneRefusal : Type 0
 OneRefusal = (b : List ℕ) (m p n q : ℕ) → Broken b m p → Broken b n q → (m ≡ n) × (p ≡ q)
 
 -- a volume was read of an image that breaks no rule
-none_broken : NotAccepted → (i : Reading) (v : Volume) (b : List ℕ) (rule place : ℕ) → i.left ≡ Some b → Broken b rule place → IsImageRead i.left v → ⊥
+none_broken : NotAccepted → (i : Reading) (v : Volume) (b : List ℕ) (rule place : ℕ) → i.left ≡ Some b → Broken b rule place → IsImageRead i v → ⊥
 none_broken not i v b rule place left broken read = not b rule place broken (image_told i v b left read)
 
 -- two refusals of one image are the same
@@ -70,10 +70,10 @@ check_refuses_image not one i o OutOfMemory end b rule place left broken = inr (
 
 -- a replay that was run read a script that is simple for the image's volume
 simple_told : (i s : Reading) (outcome : Outcome) (b text report final : List ℕ) → i.left ≡ Some b → s.left ≡ Some text → IsNotSimple (volume_of b) text
-    → IsReplay i.left s.left outcome.journal outcome.trace report final → ⊥
+    → IsReplay i s outcome.journal outcome.trace report final → ⊥
 simple_told i s outcome b text report final image_left script_left not_simple run =
     let v : run.volume ≡ volume_of b = volume_told i run.volume b image_left run.image_read in
-    let simple : IsSimpleText run.volume text run.script = told s.left text (λ t. IsSimpleText run.volume t run.script) script_left run.script_read.1 in
+    let simple : IsSimpleText run.volume text run.script = (told s.left text (λ t. IsSimpleText run.volume t run.script × (s.remains ≡ Some [])) script_left run.script_read.1).0 in
     not_simple run.script (subst (λ w. IsSimpleText w text run.script) v simple)
 
 pub replay_refuses_script : NotAccepted → (i s : Reading) (o d : Writing) (outcome : Outcome) (status : Status) → ReplayEnd i s o d outcome status → RefusesScript i s status
@@ -89,7 +89,7 @@ replay_refuses_script not i s o d outcome (WriteFault Disk) end b text image_lef
 replay_refuses_script not i s o d outcome OutOfMemory end b text image_left script_left accepted not_simple = inr (inr (inr refl))
 
 -- a script that is simple for the image's volume is not refused
-not_refused : (i s : Reading) (v : Volume) (o d : Writing) → CanReplay i s o d → IsImageRead i.left v → ForTold s.left (IsNotSimple v) → ⊥
+not_refused : (i s : Reading) (v : Volume) (o d : Writing) → CanReplay i s o d → IsImageRead i v → ForTold s.left (IsNotSimple v) → ⊥
 not_refused i s v o d can read fact =
     let same : v ≡ volume_of can.bytes = volume_told i v can.bytes can.image_left read in
     let not_simple : IsNotSimple v can.text = told s.left can.text (IsNotSimple v) can.script_left fact in
@@ -126,7 +126,7 @@ check_says_command i o status end usage = let there : ⊥ = subst (CheckEnd i o)
 
 -- ---- from the writing of a line to the end of a check
 
-pub line_written : (i : Reading) (o : Writing) (v : Volume) (status : Status) → IsImageRead i.left v → LineWritten o (check_line v) status → CheckEnd i o status
+pub line_written : (i : Reading) (o : Writing) (v : Volume) (status : Status) → IsImageRead i v → LineWritten o (check_line v) status → CheckEnd i o status
 line_written i o v Done read written = (v, read, written)
 line_written i o v (WriteFault Out) read written = (v, read, written)
 line_written i o v OutOfMemory read written = inr (v, read, written)

@@ -1,7 +1,7 @@
 -- What was read of an image and of a script.
 use Rattle.std.specs.Prelude.{min}
 use Rattle.std.specs.Fmt.{decimal}
-use Rattle.std.proofs.Common.{◌≡◌, ℕ, ◌+◌, ◌<◌, ◌≤◌, List, Option, None, Some, get_or, length, length-append, refl, ap, subst, arith}
+use Rattle.std.proofs.Common.{◌≡◌, [], ℕ, ◌+◌, ◌<◌, ◌≤◌, List, Option, None, Some, get_or, length, length-append, refl, ap, subst, arith}
 use Rattle.std.proofs.lemmas.Fmt.{length-decimal-le}
 use Rattle.std.proofs.lemmas.Option.{get_or_from_slice_get}
 use Rattle.bd_base.specs.declared.volume.Volume.{Volume}
@@ -20,6 +20,11 @@ use Rattle.bd_top.proofs.Counting.{within_area}
 pub told : (left new : Option (List ℕ)) (bytes : List ℕ) (P : List ℕ → Type 0) → ReadsAll left new bytes → P bytes → ForTold left P
 told None new bytes P reads p = tt
 told (Some old) new bytes P reads p = subst P reads.0 p
+
+-- the same, and nothing is left
+pub told_end : (left new : Option (List ℕ)) (bytes : List ℕ) (P : List ℕ → Type 0) → ReadsAll left new bytes → P bytes → ForTold left (λ b. P b × (new ≡ Some []))
+told_end None new bytes P reads p = tt
+told_end (Some old) new bytes P reads p = (subst P reads.0 p, reads.1)
 
 -- a fact about all bytes past the limit is one about those that were left
 pub told_long : (left new : Option (List ℕ)) (limit : ℕ) (P : List ℕ → Type 0) → PassesLimit limit left new → ((b : List ℕ) → limit < length b → P b) → ForTold left P

@@ -13,7 +13,7 @@ use Rattle.bd_top.specs.declared.status.To.TheVariants.{Out, Disk}
 use Rattle.bd_top.specs.declared.status.Which.TheVariants.{Image, Script as Script_}
 use Rattle.bd_top.specs.declared.words.Command.{Command}
 use Rattle.bd_top.specs.declared.words.Command.TheVariants.{Check, Replay}
-use Rattle.bd_top.specs.Outside.{ForTold, ReadFailed, Reading, WriteFailed, Writing, Wrote, WroteNothing, WrotePrefix}
+use Rattle.bd_top.specs.Outside.{ForTold, ReadFailed, ReadNothing, Reading, WriteFailed, Writing, Wrote, WroteNothing, WrotePrefix}
 use Rattle.bd_top.specs.Runs.{IsImageRead, IsReplay}
 use Rattle.bd_top.specs.Totals.{check_line}
 
@@ -29,17 +29,17 @@ pub record NothingDone (out disk : Writing) (outcome : Outcome) : Type 0 where
 -- the script was run, and a fact about its report and the image that it leaves
 abbrev pub Replayed : Reading → Reading → Outcome → (List ℕ → List ℕ → Type 0) → Type 0
 Replayed image script outcome Fact =
-    (report : List ℕ) × (final : List ℕ) × IsReplay image.left script.left outcome.journal outcome.trace report final × Fact report final
+    (report : List ℕ) × (final : List ℕ) × IsReplay image script outcome.journal outcome.trace report final × Fact report final
 
 -- what it means that a replay ended with this status: nothing goes to disk before the whole report is out
 abbrev pub ReplayEnd : Reading → Reading → Writing → Writing → Outcome → Status → Type 0
 ReplayEnd image script out disk outcome Done = Replayed image script outcome (λ report final. Wrote out report × Wrote disk final)
 ReplayEnd image script out disk outcome Usage = ⊥
 ReplayEnd image script out disk outcome (ReadFault Image) = ReadFailed image × NothingDone out disk outcome
-ReplayEnd image script out disk outcome (ReadFault Script_) = ReadFailed script × NothingDone out disk outcome × ((v : Volume) × IsImageRead image.left v)
+ReplayEnd image script out disk outcome (ReadFault Script_) = ReadFailed script × NothingDone out disk outcome × ((v : Volume) × IsImageRead image v)
 ReplayEnd image script out disk outcome (BadImage rule place) = ForTold image.left (λ b. Broken b rule place) × NothingDone out disk outcome
 ReplayEnd image script out disk outcome (BadScript line rule) =
-    (line ≡ 0) × (rule ≡ 0) × NothingDone out disk outcome × ((v : Volume) × IsImageRead image.left v × ForTold script.left (IsNotSimple v))
+    (line ≡ 0) × (rule ≡ 0) × NothingDone out disk outcome × ((v : Volume) × IsImageRead image v × ForTold script.left (IsNotSimple v))
 ReplayEnd image script out disk outcome (WriteFault Out) =
     Replayed image script outcome (λ report final. WriteFailed out × WrotePrefix out report × WroteNothing disk)
 ReplayEnd image script out disk outcome (WriteFault Disk) =
@@ -56,7 +56,7 @@ ReplayAnswer image script out disk outcome = ReplayEnd image script out disk out
 
 -- the image was read, and a fact about the line that tells of it
 abbrev pub Checked : Reading → (List ℕ → Type 0) → Type 0
-Checked image Fact = (v : Volume) × IsImageRead image.left v × Fact (check_line v)
+Checked image Fact = (v : Volume) × IsImageRead image v × Fact (check_line v)
 
 -- what it means that a check ended with this status
 abbrev pub CheckEnd : Reading → Writing → Status → Type 0
@@ -69,18 +69,19 @@ CheckEnd image out status = ⊥
 
 -- ---- all commands
 
--- the outcome of a check: there is no run, and nothing goes to disk
-pub record CheckAnswer (image : Reading) (out disk : Writing) (outcome : Outcome) : Type 0 where
+-- the outcome of a check: there is no run, no script is read, and nothing goes to disk
+pub record CheckAnswer (image script : Reading) (out disk : Writing) (outcome : Outcome) : Type 0 where
   pub ended : CheckEnd image out outcome.status
+  pub no_script : ReadNothing script
   pub disk_same : WroteNothing disk
   pub no_journal : outcome.journal ≡ []
   pub no_trace : outcome.trace ≡ []
 
--- the outcome of the command that the words say, of Usage where they say none
+-- the outcome of the command that the words say; where they say none, nothing is read
 abbrev pub Answer : Option Command → Reading → Reading → Writing → Writing → Outcome → Type 0
-Answer None image script out disk outcome = (outcome.status ≡ Usage) × NothingDone out disk outcome
+Answer None image script out disk outcome = (outcome.status ≡ Usage) × NothingDone out disk outcome × ReadNothing image × ReadNothing script
 Answer (Some Replay) image script out disk outcome = ReplayAnswer image script out disk outcome
-Answer (Some Check) image script out disk outcome = CheckAnswer image out disk outcome
+Answer (Some Check) image script out disk outcome = CheckAnswer image script out disk outcome
 
 -- an image that breaks a rule is refused with the least rule and its least place, where it is read and memory is found
 abbrev pub RefusesImage : Reading → Status → Type 0

@@ -4,9 +4,10 @@ use Rattle.std.specs.Io.KnownBytes.{Appends}
 use Rattle.bd_outside.specs.Faults.{Rose}
 use Rattle.bd_outside.specs.Sink.{AppendsPrefix}
 
--- a source around a call: the bytes that it had left before, where it tells them, and its count of faults before and after
+-- a source around a call: the bytes that it had left before and has left after, where it tells them, and its count of faults before and after
 pub record Reading : Type 0 where
   pub left : Option (List ℕ)
+  pub remains : Option (List ℕ)
   pub last_fault : Option ℕ
   pub before : ℕ
   pub after : ℕ
@@ -21,7 +22,7 @@ pub record Writing : Type 0 where
 
 -- the call on a source of these meanings that was old and is new
 abbrev pub reading : {A : Type 0} → (A → Option (List ℕ)) → (A → ℕ) → Option ℕ → A → A → Reading
-reading left faults last old new = record { left = left old; last_fault = last; before = faults old; after = faults new }
+reading left faults last old new = record { left = left old; remains = left new; last_fault = last; before = faults old; after = faults new }
 
 -- the call on a sink of these meanings that was old and is new
 abbrev pub writing : {A : Type 0} → (A → Option (List ℕ)) → (A → ℕ) → Option ℕ → A → A → Writing
@@ -31,6 +32,10 @@ writing held faults last old new = record { held = held old; holds = held new; l
 abbrev pub ForTold : Option (List ℕ) → (List ℕ → Type 0) → Type 0
 ForTold None P = Unit {0}
 ForTold (Some bytes) P = P bytes
+
+-- nothing was read
+abbrev pub ReadNothing : Reading → Type 0
+ReadNothing source = (source.remains ≡ source.left) × (source.after ≡ source.before)
 
 -- a read failed in the call
 abbrev pub ReadFailed : Reading → Type 0

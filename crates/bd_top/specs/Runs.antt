@@ -1,5 +1,5 @@
 -- What a command has read, and what a whole run has done.
-use Rattle.std.specs.Prelude.{◌≡◌, ℕ, List, Option}
+use Rattle.std.specs.Prelude.{◌≡◌, ℕ, List, [], Some}
 use Rattle.bd_base.specs.declared.script.Script.{Script}
 use Rattle.bd_base.specs.declared.volume.Volume.{Volume}
 use Rattle.bd_image.specs.Rules.{Accepted}
@@ -11,16 +11,16 @@ use Rattle.bd_machine.specs.History.{InOrder, Legal}
 use Rattle.bd_machine.specs.Machine.{State, boot_state, volume_in}
 use Rattle.bd_machine.specs.Simple.{IsSimple, IsSimpleText}
 use Rattle.bd_machine.specs.Store.{Store, start_store}
-use Rattle.bd_top.specs.Outside.{ForTold}
+use Rattle.bd_top.specs.Outside.{ForTold, Reading}
 use Rattle.bd_top.specs.Report.{report_text}
 
--- the volume is the one that the image says which was left
-abbrev pub IsImageRead : Option (List ℕ) → Volume → Type 0
-IsImageRead left v = AcceptedVolume v × ForTold left (λ b. Accepted b × (v ≡ volume_of b))
+-- the volume is the one that the image says which was left, and that was read to its end
+abbrev pub IsImageRead : Reading → Volume → Type 0
+IsImageRead image v = AcceptedVolume v × ForTold image.left (λ b. Accepted b × (v ≡ volume_of b) × (image.remains ≡ Some []))
 
--- the script is the one whose text was left, and is simple for the volume
-abbrev pub IsScriptRead : Volume → Option (List ℕ) → Script → Type 0
-IsScriptRead v left script = IsSimple v script × ForTold left (λ text. IsSimpleText v text script)
+-- the script is the one whose text was left, and that was read to its end; it is simple for the volume
+abbrev pub IsScriptRead : Volume → Reading → Script → Type 0
+IsScriptRead v text script = IsSimple v script × ForTold text.left (λ t. IsSimpleText v t script × (text.remains ≡ Some []))
 
 -- a whole run of the script over the volume: the journal is one legal history from the volume's store to the store whose image is written
 pub record IsRun (v : Volume) (script : Script) (journal : List Entry) (trace : List Event) (report image : List ℕ) : Type 0 where
@@ -36,10 +36,10 @@ pub record IsRun (v : Volume) (script : Script) (journal : List Entry) (trace : 
   pub accepted : Accepted image
   pub report_is : report ≡ report_text script journal
 
--- what a replay of the image and the script that were left has done
-pub record IsReplay (image_left script_left : Option (List ℕ)) (journal : List Entry) (trace : List Event) (report image : List ℕ) : Type 0 where
+-- what a replay of the image and the script that two sources had left has done
+pub record IsReplay (image text : Reading) (journal : List Entry) (trace : List Event) (report final : List ℕ) : Type 0 where
   pub volume : Volume
   pub script : Script
-  pub image_read : IsImageRead image_left volume
-  pub script_read : IsScriptRead volume script_left script
-  pub run : IsRun volume script journal trace report image
+  pub image_read : IsImageRead image volume
+  pub script_read : IsScriptRead volume text script
+  pub run : IsRun volume script journal trace report final

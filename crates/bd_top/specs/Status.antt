@@ -6,6 +6,7 @@ use Rattle.bd_top.specs.declared.status.Status.TheVariants.{Done, Usage, ReadFau
 use Rattle.bd_top.specs.declared.status.To.TheVariants.{Out, Disk}
 use Rattle.bd_top.specs.declared.status.Which.TheVariants.{Image, Script}
 
+-- the exit code of each status
 abbrev pub code_of : Status → ℕ
 code_of Done = 0
 code_of Usage = 2
@@ -15,9 +16,11 @@ code_of (BadImage rule place) = 5
 code_of (BadScript line rule) = 6
 code_of OutOfMemory = 7
 
+-- the line that tells which rule an image breaks, and where
 abbrev pub bad_image_text : ℕ → ℕ → List ℕ
 bad_image_text rule place = codes "bypassd: bad image: rule " ++ decimal rule ++ codes " at " ++ decimal place
 
+-- the line that tells which rule a script breaks, and in which line
 abbrev pub bad_script_text : ℕ → ℕ → List ℕ
 bad_script_text line rule = codes "bypassd: bad script: rule " ++ decimal rule ++ codes " at line " ++ decimal line
 

@@ -26,7 +26,7 @@ ScriptRefusal v script status = ⊥
 
 -- why no run was made: of the image, or, where that was read, of the script
 abbrev pub ReplayRefusal : Reading → Reading → Status → Type 0
-ReplayRefusal image script status = ImageRefusal image status ⊎ ((v : Volume) × IsImageRead image.left v × ScriptRefusal v script status)
+ReplayRefusal image script status = ImageRefusal image status ⊎ ((v : Volume) × IsImageRead image v × ScriptRefusal v script status)
 
 -- how the report and then the image were written: nothing goes to disk before the whole report is out, and after an error the first bytes are there
 abbrev pub RunWritten : Writing → Writing → List ℕ → List ℕ → Status → Type 0

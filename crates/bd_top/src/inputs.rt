@@ -42,7 +42,7 @@ fn volume_of_bytes(alloc: Global, bytes: Bytes) -> Result<Volume, ImageError>
 
 /// Reads the image from its source.
 pub(crate) fn read_image<I: Source>(alloc: Global, image: &mut I) -> Result<Volume, Status>
-    ensures ok { IfOk result (IsImageRead (I.left image.old)) }
+    ensures ok { IfOk result (IsImageRead (reading I.left I.faults I.last_fault image.old image.new)) }
     ensures err { IfErr result (ImageRefusal (reading I.left I.faults I.last_fault image.old image.new)) }
 {
     let bytes = match read_all(alloc, image, MOST_IMAGE) {
@@ -70,7 +70,7 @@ pub(crate) fn read_script<S: Source>(
     volume: &Volume,
 ) -> Result<Script, Status>
     requires { AcceptedVolume volume.now }
-    ensures ok { IfOk result (IsScriptRead volume.now (S.left script.old)) }
+    ensures ok { IfOk result (IsScriptRead volume.now (reading S.left S.faults S.last_fault script.old script.new)) }
     ensures err { IfErr result (ScriptRefusal volume.now (reading S.left S.faults S.last_fault script.old script.new)) }
 {
     let text = match read_all(alloc, script, MOST_SCRIPT) {

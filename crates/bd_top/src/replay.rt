@@ -66,7 +66,7 @@ fn read_and_run<I: Source, S: Source>(
     image: &mut I,
     script: &mut S,
 ) -> Result<WholeRun, Status>
-    ensures ok { IfOk result (λ run. IsReplay (I.left image.old) (S.left script.old) run.journal run.trace run.report run.image) }
+    ensures ok { IfOk result (λ run. IsReplay (reading I.left I.faults I.last_fault image.old image.new) (reading S.left S.faults S.last_fault script.old script.new) run.journal run.trace run.report run.image) }
     ensures err { IfErr result (ReplayRefusal (reading I.left I.faults I.last_fault image.old image.new) (reading S.left S.faults S.last_fault script.old script.new)) }
 {
     let volume = read_image(alloc, image)?;

@@ -1,5 +1,6 @@
 //! The report of a run of a simple script.
 ghost use Rattle.std.specs.Prelude.{◌≤◌, ◌≡◌, ℕ, ◌+◌, ◌<◌, ◌^◌, [], ◌∷◌, ◌++◌, None, Some, IfOk, OnOk, length, MatchOption, count_by, codes};
+ghost use Rattle.bd_base.specs.declared.limits.TheConstants.{BLOCK_SIZE};
 ghost use Rattle.std.specs.Fmt.{decimal};
 ghost use Rattle.bd_machine.specs.Calls.{at_of, entries_of, same_call};
 ghost use Rattle.bd_machine.specs.Simple.{Wish, simple_script};
@@ -123,7 +124,7 @@ fn push_totals(alloc: Global, text: &mut Vec<u8>, journal: &[Entry]) -> Result<(
 
 /// The report of a run of a simple script with this journal.
 pub(crate) fn report(alloc: Global, journal: &[Entry]) -> Result<Bytes, OutOfMemory>
-    ensures { IfOk result (λ text. (w : Wish) → 1 ≤ w.len → w.len ≤ 4096 → text ≡ report_text (simple_script w) journal.now) }
+    ensures { IfOk result (λ text. (w : Wish) → 1 ≤ w.len → w.len ≤ BLOCK_SIZE → text ≡ report_text (simple_script w) journal.now) }
 {
     let mut text = Vec::new(alloc);
     push(&mut text, b"bypassd-report 1\nproc 0\n0 ")?;

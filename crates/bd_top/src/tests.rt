@@ -2,7 +2,7 @@
 mod checks;
 mod faults;
 mod refusals;
-mod rows;
+mod runs;
 
 use crate::{Outcome, Status, top};
 use bd_base::{Bytes, List};
@@ -11,7 +11,7 @@ use std::alloc::{AllocError, Global};
 use std::process::Abort;
 use std::test::Fail;
 
-/// The script of the first row: `a` is opened for direct reads, and five bytes are read.
+/// The script of the first read, that of examples/first-read: `a` is opened for direct reads, and five bytes are read.
 const SCRIPT: &str = "bypassd-script 1\nproc 100\nopen a r direct\nread 0 0 5\n";
 
 /// The report of its run: 111 bytes.
@@ -38,7 +38,7 @@ fn set(image: &mut [u8], place: usize, byte: u8) {
     }
 }
 
-/// The image of the first row: 20 blocks with the file `a`, five bytes in block 3.
+/// The image of the first read: 20 blocks with the file `a`, five bytes in block 3.
 fn first_image(alloc: Global) -> Result<Vec<u8>, AllocError> {
     let mut image = vec![in alloc; 0u8; 81_920]?;
     put(&mut image, 0, "BYPDFS01\x01\0\0\0\x14\0\0\0\x10");
@@ -137,7 +137,7 @@ fn is_refused(rt: &impl Abort, left: &Left, want: Status) {
     assert!(rt; left.out.held().is_empty() && left.disk.held().is_empty());
 }
 
-/// Expects that a replay of the first row ended so, with these first bytes of the report and of the image written.
+/// Expects that a replay of the first read ended so, with these first bytes of the report and of the image written.
 fn has_run(rt: &impl Abort, left: &Left, want: Status, report: &[u8], image: &[u8]) {
     assert_eq!(rt; left.outcome.status, want);
     assert!(rt; left.outcome.journal.len() == 4 && left.outcome.trace.len() == 4);

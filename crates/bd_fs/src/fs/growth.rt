@@ -1,6 +1,6 @@
 //! Files that grow and shrink by one block.
 ghost use Rattle.std.specs.Prelude.{◌≡◌, ◌+◌, ◌*◌, ◌/◌, ◌<◌, ◌≤◌, ◌↔◌, None, Some, Err, IfOk, OnOk, OnErr, IsSome, MatchResult, length, slice_set, unwrap_or};
-ghost use Rattle.bd_base.specs.declared.limits.TheConstants.{BLOCK_SIZE};
+ghost use Rattle.bd_base.specs.declared.limits.TheConstants.{BLOCK_SIZE, PARTS, PART_BLOCKS};
 ghost use Rattle.bd_base.specs.declared.reason.Reason.{Reason};
 ghost use Rattle.bd_base.specs.Allocation.{last_block};
 ghost use Rattle.bd_base.specs.Files.{blocks_for};
@@ -167,7 +167,7 @@ fn push_block(file: &mut Option<Inode>, block: BlockNo, size: u64) -> Result<(),
 fn drop_block(file: &mut Option<Inode>) -> BlockNo
     requires exists { IsSome file.old }
     requires not_empty { 0 < length (blocks_at file.old) }
-    requires in_range { length (blocks_at file.old) ≤ 4096 }
+    requires in_range { length (blocks_at file.old) ≤ PARTS * PART_BLOCKS }
     ensures block { last_block (blocks_at file.old) ≡ Some result }
     ensures dropped { file.new ≡ Some (without_last (unwrap_or file.old no_file)) }
 {

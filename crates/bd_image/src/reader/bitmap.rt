@@ -1,5 +1,7 @@
 //! The rule that the bitmap marks the blocks of the metadata and of files, and no others.
 ghost use Rattle.std.specs.Prelude.{◌≡◌, ℕ, ◌+◌, ◌*◌, ◌<◌, ◌≤◌, ◌↔◌, ◌⊎◌, length, IfOk, IsTrue, MatchOption, OnOk};
+ghost use Rattle.bd_base.specs.declared.limits.TheConstants.{BLOCK_SIZE};
+ghost use Rattle.bd_image.specs.declared.layout.TheConstants.{MOST_EXTENTS};
 ghost use Rattle.std.specs.List.{Contains};
 ghost use Rattle.bd_image.specs.Layout.{blocks_at, extent_count, inode_count, is_marked};
 ghost use Rattle.bd_image.specs.Rules.{Bitmap, BlockCount, ExtentCount, ExtentRange, HasRecords, IsLeastBreak, Obeys};
@@ -20,11 +22,11 @@ const BITS: u64 = 8 * BLOCK_SIZE;
 fn take_file(bytes: &[u8], j: u64, taken: &mut [bool])
     requires image { HasRecords bytes.now }
     requires record { j < inode_count bytes.now }
-    requires few { extent_count bytes.now j ≤ 24 }
+    requires few { extent_count bytes.now j ≤ MOST_EXTENTS }
     requires inside { (e : ℕ) → e < extent_count bytes.now j → IsInside bytes.now j e }
     requires total { Obeys bytes.now BlockCount }
-    requires long { length taken.old ≡ 32768 }
-    ensures { (x : ℕ) → x < 32768 → IsTakenIn taken.new x ↔ (IsTakenIn taken.old x ⊎ Contains (blocks_at bytes.now j) x) }
+    requires long { length taken.old ≡ 8 * BLOCK_SIZE }
+    ensures { (x : ℕ) → x < 8 * BLOCK_SIZE → IsTakenIn taken.new x ↔ (IsTakenIn taken.old x ⊎ Contains (blocks_at bytes.now j) x) }
 {
     for e in 0..extent_count(bytes, j) {
         take_blocks(taken, extent_at(bytes, j, e));
@@ -37,7 +39,7 @@ fn mark_taken(bytes: &[u8], taken: &mut [bool])
     requires total { Obeys bytes.now BlockCount }
     requires counts { Obeys bytes.now ExtentCount }
     requires ranges { Obeys bytes.now ExtentRange }
-    requires long { length taken.old ≡ 32768 }
+    requires long { length taken.old ≡ 8 * BLOCK_SIZE }
     requires clear { (x : ℕ) → ¬ IsTakenIn taken.old x }
     ensures { MarksTaken bytes.now taken.new }
 {
@@ -55,7 +57,7 @@ fn mark_taken(bytes: &[u8], taken: &mut [bool])
 
 /// Whether the bitmap marks block `x`.
 fn is_marked(bytes: &[u8], x: u64) -> bool
-    requires block { x < 32768 }
+    requires block { x < 8 * BLOCK_SIZE }
     requires long { 8192 ≤ length bytes.now }
     ensures { result ≡ is_marked bytes.now x }
 {

@@ -1,5 +1,7 @@
 //! The files that the records say.
 ghost use Rattle.std.specs.Prelude.{◌≡◌, ℕ, ◌+◌, ◌<◌, ◌≤◌, ◌++◌, length, map, nat_eq, not, IfOk, OnOk};
+ghost use Rattle.bd_base.specs.declared.limits.TheConstants.{BLOCKS};
+ghost use Rattle.bd_image.specs.declared.layout.TheConstants.{MOST_EXTENTS};
 ghost use Rattle.std.specs.List.{range_with_len, take_while};
 ghost use Rattle.bd_image.specs.Checks.{IsInside};
 ghost use Rattle.bd_image.specs.Layout.{blocks_at, extent_count, inode_count, name_at, used_mark};
@@ -35,7 +37,7 @@ fn read_name(alloc: Global, bytes: &[u8], j: u64) -> Result<Name, OutOfMemory>
 
 /// Appends the blocks of the extent.
 fn push_blocks(blocks: &mut BlockList, extent: Extent) -> Result<(), OutOfMemory>
-    requires { extent.start + extent.length ≤ 16384 }
+    requires { extent.start + extent.length ≤ BLOCKS }
     ensures { OnOk result (blocks.new ≡ blocks.old ++ range_with_len extent.start extent.length) }
 {
     let start = u64::from(extent.start);
@@ -50,7 +52,7 @@ fn read_blocks(alloc: Global, bytes: &[u8], j: u64) -> Result<BlockList, OutOfMe
     requires image { HasRecords bytes.now }
     requires total { Obeys bytes.now BlockCount }
     requires record { j < inode_count bytes.now }
-    requires few { extent_count bytes.now j ≤ 24 }
+    requires few { extent_count bytes.now j ≤ MOST_EXTENTS }
     requires inside { (e : ℕ) → e < extent_count bytes.now j → IsInside bytes.now j e }
     ensures { IfOk result (λ blocks. blocks ≡ blocks_at bytes.now j) }
 {

@@ -1,5 +1,6 @@
 //! The bitmap of an image.
 ghost use Rattle.std.specs.Prelude.{◌≡◌, ℕ, ◌*◌, ◌≤◌, ◌||◌, ◌++◌, length, IfOk, OnOk};
+ghost use Rattle.bd_base.specs.declared.limits.TheConstants.{BLOCKS, FILES};
 ghost use Rattle.std.specs.List.{list_any};
 ghost use Rattle.bd_base.specs.Bytes.{AreBytes};
 ghost use Rattle.bd_image.specs.Bits.{is_set};
@@ -11,7 +12,7 @@ use std::alloc::Global;
 
 /// Sets the bits of all blocks of all files.
 fn mark_files(bits: &mut [u8], inodes: &[Option<Inode>])
-    requires { 16384 ≤ 8 * length bits.old }
+    requires { BLOCKS ≤ 8 * length bits.old }
     ensures marks { (y : ℕ) → is_set bits.new y ≡ (is_set bits.old y || list_any (owns_block y) inodes.now) }
     ensures bytes { AreBytes bits.old → AreBytes bits.new }
 {
@@ -28,8 +29,8 @@ fn bitmap_front(
     count: usize,
     inodes: &[Option<Inode>],
 ) -> Result<Vec<u8>, OutOfMemory>
-    requires blocks { 16384 ≤ 8 * count }
-    requires few { length inodes.now ≤ 256 }
+    requires blocks { BLOCKS ≤ 8 * count }
+    requires few { length inodes.now ≤ FILES }
     ensures { IfOk result (λ bits. bits.items ≡ bitmap_front count inodes.now) }
 {
     let mut bits = vec![in alloc; 0; count]?;
@@ -44,7 +45,7 @@ pub(crate) fn push_bitmap(
     out: &mut Vec<u8>,
     inodes: &[Option<Inode>],
 ) -> Result<(), OutOfMemory>
-    requires { length inodes.now ≤ 256 }
+    requires { length inodes.now ≤ FILES }
     ensures { OnOk result (out.new.items ≡ out.old.items ++ bitmap_bytes inodes.now) }
 {
     let bits = bitmap_front(alloc, BLOCK_SIZE as usize, inodes)?;

@@ -1,5 +1,5 @@
 //! Images that are checked.
-use super::{SURE, checked, first_image, is_refused, put, set};
+use super::{SCRIPT, SURE, checked, first_image, is_refused, put, replayed, set};
 use crate::{Status, check_all};
 use bd_base::List;
 use bd_outside::{SureSink, SureSource};
@@ -56,15 +56,17 @@ fn counts_files_and_free_blocks(rt: HostRuntime) -> Result<(), Fail> {
     Ok(())
 }
 
-/// Expects that a check refuses the image so.
+/// Expects that a check and a replay refuse the image so.
 fn is_bad(
     rt: &(impl Abort + AllocGlobal),
     image: Vec<u8>,
     rule: u8,
     place: u64,
 ) -> Result<(), Fail> {
-    let left = checked(rt.alloc(), image, SURE)?;
-    is_refused(rt, &left, Status::BadImage { rule, place });
+    let want = Status::BadImage { rule, place };
+    let copy = image.as_slice().to_vec(rt.alloc())?;
+    is_refused(rt, &checked(rt.alloc(), copy, SURE)?, want);
+    is_refused(rt, &replayed(rt.alloc(), image, SCRIPT, SURE)?, want);
     Ok(())
 }
 

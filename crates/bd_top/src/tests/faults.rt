@@ -1,4 +1,4 @@
-//! The first row with each call of each source and sink failing in turn.
+//! The first read with each call of each source and sink failing in turn.
 use super::{
     Left, Plan, REPORT, SCRIPT, SURE, bytes, checked, failing, first_image, has_run, is_refused,
     replayed,
@@ -10,8 +10,8 @@ use std::alloc::Global;
 use std::process::Abort;
 use std::test::Fail;
 
-/// What a replay of the first row leaves where these calls fail.
-fn first_row(alloc: Global, plan: Plan) -> Result<Left, Fail> {
+/// What a replay of the first read leaves where these calls fail.
+fn first_read(alloc: Global, plan: Plan) -> Result<Left, Fail> {
     replayed(alloc, first_image(alloc)?, SCRIPT, plan)
 }
 
@@ -25,7 +25,7 @@ fn each_read_of_the_image_may_fail(rt: HostRuntime) -> Result<(), Fail> {
     // Two reads of 40,960 bytes, and one that meets the end.
     for call in 0..3 {
         let image = Some(call);
-        let left = first_row(rt.alloc(), Plan { image, ..SURE })?;
+        let left = first_read(rt.alloc(), Plan { image, ..SURE })?;
         is_refused(&rt, &left, Status::ReadFault(Which::Image));
     }
     Ok(())
@@ -36,7 +36,7 @@ fn each_read_of_the_script_may_fail(rt: HostRuntime) -> Result<(), Fail> {
     // Reads of 20, 20 and 13 bytes, and one that meets the end.
     for call in 0..4 {
         let script = Some(call);
-        let left = first_row(rt.alloc(), Plan { script, ..SURE })?;
+        let left = first_read(rt.alloc(), Plan { script, ..SURE })?;
         is_refused(&rt, &left, Status::ReadFault(Which::Script));
     }
     Ok(())
@@ -47,7 +47,7 @@ fn each_write_of_the_report_may_fail(rt: HostRuntime) -> Result<(), Fail> {
     // Writes of 40, 40 and 31 bytes.
     for call in 0..3u8 {
         let out = Some(u64::from(call));
-        let left = first_row(rt.alloc(), Plan { out, ..SURE })?;
+        let left = first_read(rt.alloc(), Plan { out, ..SURE })?;
         let held = &REPORT.as_bytes()[..40 * usize::from(call)];
         has_run(&rt, &left, Status::WriteFault(To::Out), held, &[]);
     }
@@ -61,7 +61,7 @@ fn each_write_of_the_image_may_fail(rt: HostRuntime) -> Result<(), Fail> {
     assert!(&rt; image.len() == 81_920);
     for call in 0..2u8 {
         let disk = Some(u64::from(call));
-        let left = first_row(rt.alloc(), Plan { disk, ..SURE })?;
+        let left = first_read(rt.alloc(), Plan { disk, ..SURE })?;
         let held = &image.as_slice()[..40_960 * usize::from(call)];
         has_run(
             &rt,
@@ -85,7 +85,7 @@ const PAST_THE_LAST: Plan = Plan {
 #[test]
 fn no_other_call_is_made(rt: HostRuntime) -> Result<(), Fail> {
     let image = first_image(rt.alloc())?;
-    let left = first_row(rt.alloc(), PAST_THE_LAST)?;
+    let left = first_read(rt.alloc(), PAST_THE_LAST)?;
     has_run(
         &rt,
         &left,

@@ -3,7 +3,7 @@ use Rattle.bd_outside.specs.declared.whole.ReadError.{ReadError}
 use Rattle.bd_machine.specs.declared.error.ScriptError.TheVariants.{BadScript}
 use Rattle.bd_machine.specs.Refusals.{IsNotSimple, RefusesText}
 use Rattle.bd_machine.specs.Simple.{IsSimpleText}
-use Rattle.bd_top.proofs.Reading.{told, told_long, too_long_script, volume_for_machine}
+use Rattle.bd_top.proofs.Reading.{told, told_end, told_long, too_long_script, volume_for_machine}
 use Rattle.bd_top.proofs.inputs.read_script.Goals as goal
 
 pub returns-in-Err-TooLong-clause-err : goal.returns-in-Err-TooLong-clause-err
@@ -18,7 +18,7 @@ returns-in-Ok-read_simple-clause-ok g c =
     let v = c.args.volume.now in
     let script = c.in-Ok-read_simple.script in
     let simple : IsSimpleText v c.in-Ok.text script = subst (λ (text : List ℕ). IsSimpleText v text script) c.as_slice.ensures c.in-Ok-read_simple.ensures.ok in
-    ((simple.0, simple.4, simple.5), told _ _ c.in-Ok.text (λ text. IsSimpleText v text script) c.in-Ok.ensures.ok simple)
+    ((simple.0, simple.4, simple.5), told_end _ _ c.in-Ok.text (λ text. IsSimpleText v text script) c.in-Ok.ensures.ok simple)
 
 pub returns-in-Err-BadScript-clause-err : goal.returns-in-Err-BadScript-clause-err
 returns-in-Err-BadScript-clause-err g c =

@@ -41,7 +41,7 @@ fn is_of_hello(entry: &Entry) -> bool {
         if block.get() == 3 && range.lo == 0 && range.hi == 5 && bytes.as_slice() == "hello".as_bytes())
 }
 
-/// Expects the journal of the first row.
+/// Expects the journal of the first read.
 fn has_first_journal(rt: &impl Abort, journal: &[Entry]) {
     assert!(rt; journal.len() == 4);
     assert!(rt; is_opened(&journal[0]));
@@ -59,7 +59,7 @@ fn event(rt: &impl Abort, turn: u64, row: Row) -> Event {
     }
 }
 
-/// Expects the events of the first row.
+/// Expects the events of the first read.
 fn has_first_events(rt: &impl Abort, trace: &[Event]) {
     let events = [
         event(rt, 0, Row::Opened),
@@ -71,7 +71,7 @@ fn has_first_events(rt: &impl Abort, trace: &[Event]) {
 }
 
 #[test]
-fn replays_the_first_row(rt: HostRuntime) -> Result<(), Fail> {
+fn replays_the_first_read(rt: HostRuntime) -> Result<(), Fail> {
     let alloc = rt.alloc();
     let image = first_image(alloc)?;
     let left = replayed(alloc, first_image(alloc)?, SCRIPT, SURE)?;
@@ -87,7 +87,7 @@ fn replays_the_first_row(rt: HostRuntime) -> Result<(), Fail> {
     Ok(())
 }
 
-/// Replays the first row in pieces of at most so many bytes.
+/// Replays the first read in pieces of at most so many bytes.
 fn replays_in_pieces(rt: &(impl Abort + AllocGlobal), most: usize) -> Result<(), Fail> {
     assert!(rt; most > 0);
     let alloc = rt.alloc();
