@@ -2,7 +2,7 @@
 use Rattle.std.specs.Prelude.{◌≡◌, ℕ, ◌-◌, ◌*◌, ◌%◌, ◌<◌, ◌≤◌, Bool, false, IsTrue, nat_eq, nat_le, nat_lt, is_some, not, cond, take, Option, None, Some, List, [], ◌∷◌, ◌++◌, length, map, position, slice_index_or, unwrap_or, All}
 use Rattle.std.specs.Option.{option_to_list}
 use Rattle.std.specs.Str.{bytes_eq}
-use Rattle.bd_base.specs.declared.limits.TheConstants.{BLOCK_SIZE, BLOCKS, FILES, FILE_SIZE, PERMS}
+use Rattle.bd_base.specs.declared.limits.TheConstants.{BLOCK_SIZE, BLOCKS, EXTENTS, FILES, FILE_SIZE, PERMS}
 use Rattle.bd_base.specs.declared.reason.Reason.{Reason}
 use Rattle.bd_base.specs.declared.reason.Reason.TheVariants.{Exists, Inodes, NoSpace, Extents, TooBig}
 use Rattle.bd_base.specs.declared.volume.Inode.{Inode}
@@ -55,16 +55,12 @@ is_free total files block = is_free_block total (length files) (block_lists file
 
 -- ---- what holds of the files of an image
 
--- how many extents a file may have
-abbrev pub most_extents : ℕ
-most_extents = 24
-
 -- a file of an image of total blocks with room for so many files
 pub record IsValidFile (total capacity : ℕ) (file : Inode) : Type 0 where
   pub in_data_area : All (λ block. IsTrue (is_data_block total capacity block)) file.blocks
   pub enough_blocks : length file.blocks ≡ blocks_for file.size
   pub size_in_range : file.size ≤ FILE_SIZE
-  pub few_extents : length (extents_of file.blocks) ≤ most_extents
+  pub few_extents : length (extents_of file.blocks) ≤ EXTENTS
 
 -- no two files have one name
 abbrev pub NamesDiffer : List (Option Inode) → Type 0
@@ -104,7 +100,7 @@ growth_block total files file =
 -- why a file of these blocks does not get this next one: there is none, or it needs one extent too many
 abbrev pub block_refusal : List ℕ → Option ℕ → Option Reason
 block_refusal blocks None = Some NoSpace
-block_refusal blocks (Some block) = cond (nat_le (length (extents_of (blocks ++ block ∷ []))) most_extents) None (Some Extents)
+block_refusal blocks (Some block) = cond (nat_le (length (extents_of (blocks ++ block ∷ []))) EXTENTS) None (Some Extents)
 
 -- why this file does not grow to this larger size
 abbrev pub growth_refusal : ℕ → List (Option Inode) → Inode → ℕ → Option Reason

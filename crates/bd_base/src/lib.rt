@@ -3,6 +3,7 @@
 
 mod limits;
 mod list;
+mod names;
 mod numbers;
 mod range;
 mod reason;
@@ -10,10 +11,11 @@ mod script;
 mod volume;
 
 pub use limits::{
-    ACTORS, ADDRESSES, BLOCK_SIZE, BLOCKS, DESCRIPTORS, FILE_SIZE, FILES, FRAGMENTS, NAME_SIZE,
-    PART_BLOCKS, PARTS, PERMS, PROCESSES,
+    ACTORS, ADDRESSES, BLOCK_SIZE, BLOCKS, DESCRIPTORS, EXTENTS, FILE_SIZE, FILES, FRAGMENTS,
+    IMAGE_SIZE, NAME_SIZE, PART_BLOCKS, PARTS, PERMS, PROCESSES, SCRIPT_SIZE,
 };
 pub use list::{Bytes, List, OutOfMemory};
+pub use names::{is_name, is_name_byte};
 pub use numbers::{Actor, BlockNo, Fd, FileId, Part, Pid, Vba};
 pub use range::Range;
 pub use reason::Reason;

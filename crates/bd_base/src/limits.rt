@@ -33,6 +33,15 @@ pub const BLOCK_SIZE: u64 = 4096;
 /// How many bytes a file may have.
 pub const FILE_SIZE: u64 = 16_777_216;
 
+/// How many extents a file may have.
+pub const EXTENTS: u64 = 24;
+
+/// How many bytes an image may have.
+pub const IMAGE_SIZE: u64 = 67_108_864;
+
+/// How many bytes a script may have.
+pub const SCRIPT_SIZE: u64 = 8_388_608;
+
 /// How many bytes a file's name may have.
 pub const NAME_SIZE: u64 = 31;
 

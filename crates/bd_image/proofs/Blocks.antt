@@ -1,5 +1,5 @@
 -- The blocks of extents, one extent after the other.
-use Rattle.std.proofs.Common.{◌≡◌, ℕ, ◌+◌, List, [], ◌∷◌, ◌++◌, length, map, refl, sym, ap, ◌∙◌, ◌-◌, ◌≤◌, map-id, append_assoc, arith}
+use Rattle.std.proofs.Common.{◌≡◌, ℕ, ◌+◌, List, [], ◌∷◌, ◌++◌, length, map, refl, sym, ap, ◌∙◌, map-id, append_assoc, arith}
 use Rattle.std.specs.List.{range_with_len}
 use Rattle.std.proofs.lemmas.Grind.{common_steps}
 use Rattle.std.proofs.lemmas.List.FromFn.{map-range_with_len_more, length-range_with_len}
@@ -24,11 +24,3 @@ length_blocks_before-more b j n =
 -- a range grows at its end
 pub range_with_len-more : (a n : ℕ) → range_with_len a (n + 1) ≡ range_with_len a n ++ (a + n) ∷ []
 range_with_len-more a n = sym (map-id (range_with_len a (n + 1))) ∙ map-range_with_len_more (λ x. x) a n (a + n) refl ∙ ap (λ l. l ++ (a + n) ∷ []) (map-id (range_with_len a n))
-
--- one more block of a range is appended
-pub range_with_len-pushed : (before now after : List ℕ) (start block item : ℕ) → start ≤ block → now ≡ before ++ range_with_len start (block - start) → after ≡ now ++ item ∷ [] → item ≡ block → after ≡ before ++ range_with_len start (block + 1 - start)
-range_with_len-pushed before now after start block item l e f g =
-    let one : block + 1 - start ≡ block - start + 1 = omega arith in
-    let last : start + (block - start) ≡ block = omega arith in
-    f ∙ ap (λ x. now ++ x ∷ []) g ∙ ap (λ xs. xs ++ block ∷ []) e ∙ append_assoc before (range_with_len start (block - start)) (block ∷ [])
-    ∙ ap (λ xs. before ++ xs) (ap (λ x. range_with_len start (block - start) ++ x ∷ []) (sym last) ∙ sym (range_with_len-more start (block - start)) ∙ ap (range_with_len start) (sym one))

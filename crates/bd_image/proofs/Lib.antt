@@ -1,8 +1,10 @@
--- Lemmas on numbers as bytes, on extents, on the checks of the rules, and on the parts of an image.
+-- Lemmas on numbers as bytes, on extents, on the checks of the rules, on the parts of an image, and on what an image reads back as.
+pub mod Accepted
 pub mod Bitmap
 pub mod Blocks
-pub mod Extents
+pub mod Fields
 pub mod Header
+pub mod InDataArea
 pub mod Limits
 pub mod Marks
 pub mod NameFields
@@ -10,11 +12,23 @@ pub mod Names
 pub mod Numbers
 pub mod Owned
 pub mod Parts
+pub mod Places
 pub mod Records
 pub mod RuleOrder
+pub mod Runs
 pub mod Seen
 pub mod SetBits
 pub mod Sharing
+pub mod Sound
+pub mod Standing
 pub mod Tails
 pub mod Taken
 pub mod Whole
+pub mod Written
+pub mod WrittenBitmap
+pub mod WrittenBytes
+pub mod WrittenExtents
+pub mod WrittenRules
+pub mod WrittenShares
+pub mod WrittenTails
+pub mod WrittenVolume

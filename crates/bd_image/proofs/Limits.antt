@@ -54,7 +54,7 @@ valid-file b j h used =
     }
 
 -- what holds of the file of each used record holds of each file of the volume
-each-file : (b : List ℕ) (P : Inode → Type 0) → ((j : ℕ) → IsUsed b j → P (file_at b j)) → (id : ℕ) (file : Inode) → get_or (inodes_of b) id None ≡ Some file → P file
+pub each-file : (b : List ℕ) (P : Inode → Type 0) → ((j : ℕ) → IsUsed b j → P (file_at b j)) → (id : ℕ) (file : Inode) → get_or (inodes_of b) id None ≡ Some file → P file
 each-file b P h id file at = let (used, is) = file-is b id file at in subst P is (h id used)
 
 -- the files of the volume of an accepted image are files of an image
@@ -83,7 +83,7 @@ AreFiles-inodes_of b h =
       perms = each-file b (λ file. file.perms < 16) (λ j used. omega (arith, h Perms j used));
     }
 
-image-within_limits : (b : List ℕ) → Accepted b → IsWithinLimits (volume_of b)
+pub image-within_limits : (b : List ℕ) → Accepted b → IsWithinLimits (volume_of b)
 unfolding volume_of
 image-within_limits b h =
     let m : ℕ = inode_count b in

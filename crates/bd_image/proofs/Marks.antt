@@ -20,7 +20,7 @@ range_to s l x w =
     let at : s + w.0 ≡ x = sym (get_or-range_with_len s l w.0 x low) ∙ w.2 in
     (omega arith, omega arith)
 
-range_of : (s l x : ℕ) → (s ≤ x) × (x < s + l) → Contains (range_with_len s l) x
+pub range_of : (s l x : ℕ) → (s ≤ x) × (x < s + l) → Contains (range_with_len s l) x
 range_of s l x h =
     let low : x - s < l = omega (arith, h.0, h.1) in
     (x - s, omega (arith, length-range_with_len s l), get_or-range_with_len s l (x - s) x low ∙ (let e : s + (x - s) ≡ x = omega (arith, h.0) in e))

@@ -1,7 +1,7 @@
--- The bytes of a number that was read from bytes are these bytes.
-use Rattle.std.proofs.Common.{◌≡◌, ◌≤◌, ◌<◌, ◌+◌, ◌*◌, ◌/◌, ◌%◌, ◌^◌, ℕ, zero, suc, List, [], ◌∷◌, length, take, get_or, refl, ap, arith}
-use Rattle.std.proofs.Math.Nat.{div-div-eq-div-mul, pow-succ'}
-use Rattle.std.proofs.lemmas.List.Elements.{All-head, All-tail}
+-- Numbers read from their bytes and written as bytes: each gives the other back.
+use Rattle.std.proofs.Common.{◌≡◌, ◌≤◌, ◌<◌, ◌+◌, ◌*◌, ◌/◌, ◌%◌, ◌^◌, ℕ, zero, suc, List, [], ◌∷◌, ◌++◌, length, take, get_or, refl, ap, sym, ◌∙◌, arith}
+use Rattle.std.proofs.Math.Nat.{div-div-eq-div-mul, one-le-pow, pow-succ'}
+use Rattle.std.proofs.lemmas.List.Elements.{All-cons, All-head, All-nil, All-tail}
 use Rattle.std.specs.Int.{byte_at, bytes_low_first}
 use Rattle.byteorder.specs.Endian.{little_bytes, little_from, little_number}
 use Rattle.bd_base.specs.Bytes.{AreBytes}
@@ -36,3 +36,46 @@ little_bytes-little_number (suc n) (x ∷ xs) are h =
     little_bytes-little_number n xs (All-tail (λ byte. byte < 256) x xs are) (omega arith) in
     let first : (x + 256 * little_number n xs) % 256 ≡ x = omega arith in
     rw (little_from-rest 0 n x xs, first, bytes_low_first-above 0 n x (little_number n xs) low, rest) refl
+
+-- the number of bytes that a number was written as is this number
+pub little_number-little_bytes : (n x : ℕ) (rest : List ℕ) → x < 256 ^ n → little_number n (little_bytes n x ++ rest) ≡ x
+little_number-little_bytes zero x rest h = let none : 0 ≡ x = omega arith in none
+little_number-little_bytes (suc n) x rest h =
+    let above : x / 256 < 256 ^ n = omega (arith, pow-succ' 256 n) in
+    let whole : x ≡ x % 256 + 256 * (x / 256) = omega arith in
+    let bytes : bytes_low_first 1 n x ≡ bytes_low_first 0 n (x / 256) =
+    ap (bytes_low_first 1 n) whole ∙ bytes_low_first-above 0 n (x % 256) (x / 256) (omega arith) in
+    let read : little_from 1 n (x % 256 ∷ bytes_low_first 1 n x ++ rest) ≡ x / 256 =
+    little_from-rest 0 n (x % 256) (bytes_low_first 1 n x ++ rest) ∙ ap (λ (l : List ℕ). little_number n (l ++ rest)) bytes
+    ∙ little_number-little_bytes n (x / 256) rest above in
+    ap (λ (m : ℕ). x % 256 + 256 * m) read ∙ sym whole
+
+-- each byte of a number is below 256
+byte_at-below : (i x : ℕ) → byte_at i x < 256
+byte_at-below zero x = omega arith
+byte_at-below (suc i) x = let e : x / 256 ^ suc i % 256 < 256 = omega arith in e
+
+-- the bytes that a number is written as are bytes
+pub AreBytes-little_bytes : (n i x : ℕ) → AreBytes (bytes_low_first i n x)
+AreBytes-little_bytes zero i x = All-nil (λ byte. byte < 256)
+AreBytes-little_bytes (suc n) i x =
+    All-cons (λ byte. byte < 256) (byte_at i x) (bytes_low_first (suc i) n x) (byte_at-below i x) (AreBytes-little_bytes n (suc i) x)
+
+-- no bytes are the number 0
+little_from-nil : (i n : ℕ) → little_from i n [] ≡ 0
+little_from-nil i zero = refl
+little_from-nil i (suc n) = let rest : little_from (suc i) n [] ≡ 0 = little_from-nil (suc i) n in omega arith
+
+-- a power of 256 is above 0
+pow_above : (n : ℕ) → 0 < 256 ^ n
+pow_above n = one-le-pow n 256 (omega arith)
+
+-- the number of n bytes is below the n-th power of 256
+pub little_number-below : (n : ℕ) (bs : List ℕ) → AreBytes bs → little_number n bs < 256 ^ n
+little_number-below zero bs are = let e : 0 < 1 = omega arith in e
+little_number-below (suc n) [] are = rw (little_from-nil 0 (suc n)) (pow_above (suc n))
+little_number-below (suc n) (x ∷ xs) are =
+    let low : x < 256 = All-head (λ byte. byte < 256) x xs are in
+    let rest : little_number n xs < 256 ^ n = little_number-below n xs (All-tail (λ byte. byte < 256) x xs are) in
+    let read : little_from 1 n (x ∷ xs) ≡ little_number n xs = little_from-rest 0 n x xs in
+    omega (arith, pow-succ' 256 n, read)

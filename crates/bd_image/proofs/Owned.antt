@@ -1,5 +1,5 @@
 -- No block of an accepted image is in two places of its files.
-use Rattle.std.proofs.Common.{◌≡◌, ◌≤◌, ◌<◌, ◌+◌, ◌⊎◌, inl, inr, ℕ, zero, suc, cond, eqb, ◌-◌, List, ◌∷◌, ◌++◌, Option, None, Some, length, get_or, replicate, map, refl, ap, sym, ◌∙◌, subst, arith}
+use Rattle.std.proofs.Common.{◌≡◌, ◌≤◌, ◌<◌, ◌+◌, ◌⊎◌, inl, inr, ℕ, zero, suc, cond, eqb, ◌-◌, List, [], ◌∷◌, ◌++◌, Option, None, Some, length, get_or, replicate, map, refl, ap, sym, ◌∙◌, subst, arith}
 use Rattle.std.proofs.lemmas.Bool.{cases_eq, cases_lt, cases_order, cond-false, cond-true, eq-eqb, eqb-true, ne_eqb}
 use Rattle.std.proofs.lemmas.List.Sums.{sum_by-append, sum_by-cons}
 use Rattle.std.specs.List.{count_by, range_with_len, sum_by}
@@ -77,14 +77,13 @@ times-range x (suc n) s =
     ]
 
 -- how often a block is in the blocks of extents
-pub times-blocks_of : (x : ℕ) (f : ℕ → Extent) (n a : ℕ)
-    → times x (blocks_of (map f (range_with_len a n))) ≡ sum_by (λ e. times x (range_with_len (f e).start (f e).length)) (range_with_len a n)
-times-blocks_of x f zero a = refl
-times-blocks_of x f (suc n) a =
-    let g : ℕ → ℕ = λ e. times x (range_with_len (f e).start (f e).length) in
-    sum_by-append (λ y. cond (eqb x y) 1 0) (range_with_len (f a).start (f a).length) (blocks_of (map f (range_with_len (a + 1) n)))
-    ∙ ap (λ (k : ℕ). g a + k) (times-blocks_of x f n (a + 1))
-    ∙ sym (sum_by-cons g a (range_with_len (a + 1) n))
+pub times-blocks_of : (x : ℕ) (es : List Extent) → times x (blocks_of es) ≡ sum_by (λ e. times x (range_with_len e.start e.length)) es
+times-blocks_of x [] = refl
+times-blocks_of x (f ∷ es) =
+    let g : Extent → ℕ = λ e. times x (range_with_len e.start e.length) in
+    sum_by-append (λ y. cond (eqb x y) 1 0) (range_with_len f.start f.length) (blocks_of es)
+    ∙ ap (λ (k : ℕ). g f + k) (times-blocks_of x es)
+    ∙ sym (sum_by-cons g f es)
 
 -- how often block x is in extent e of record j
 abbrev times_at : List ℕ → ℕ → ℕ → ℕ → ℕ
@@ -116,7 +115,8 @@ times_in-used : (b : List ℕ) (x j : ℕ) → used_mark b j ≡ 1 → times_in 
 times_in-used b x j used =
     ap (λ (inode : Option Inode). times x (blocks_at inode))
     (cond-true (eqb (used_mark b j) 1) (Some (file_at b j)) None (eq-eqb (used_mark b j) 1 used))
-    ∙ times-blocks_of x (extent_at b j) (extent_count b j) 0
+    ∙ times-blocks_of x (map (extent_at b j) (range_with_len 0 (extent_count b j)))
+    ∙ fold-map (λ (a : ℕ) (e : Extent). a + times x (range_with_len e.start e.length)) (extent_at b j) 0 (range_with_len 0 (extent_count b j))
 
 times_in-free : (b : List ℕ) (x j : ℕ) → (used_mark b j ≡ 1 → ⊥) → times_in b x j ≡ 0
 times_in-free b x j free =
@@ -147,10 +147,14 @@ times_in-small b x j shares there =
       | inr free ↦ omega (arith, times_in-free b x j free)
     ]
 
--- how often a block is in the lists of blocks of the volume's files
+-- how often a block is in the lists of blocks of files
+pub times_listed-files : (inodes : List (Option Inode)) (x : ℕ) → times_listed (block_lists inodes) x ≡ sum_by (λ inode. times x (blocks_at inode)) inodes
+times_listed-files inodes x = fold-map (λ (a : ℕ) (blocks : List ℕ). a + times x blocks) blocks_at 0 inodes
+
+-- and of the volume's files
 times_listed-inodes_of : (b : List ℕ) (x : ℕ) → times_listed (block_lists (inodes_of b)) x ≡ sum_by (times_in b x) (range_with_len 0 (inode_count b))
 times_listed-inodes_of b x =
-    fold-map (λ (a : ℕ) (blocks : List ℕ). a + times x blocks) blocks_at 0 (inodes_of b)
+    times_listed-files (inodes_of b) x
     ∙ fold-map (λ (a : ℕ) (inode : Option Inode). a + times x (blocks_at inode)) (inode_at b) 0 (range_with_len 0 (inode_count b))
 
 -- no block is in two places of the volume's files

@@ -11,7 +11,8 @@ use Rattle.bd_base.specs.Extents.{AreMaximal, extents_of}
 use Rattle.bd_image.specs.Layout.{IsUsed, blocks_at, extent_at, extent_count, extent_place, extents_at, inode_count, name_at, name_field, owner_at, perms_at, record_place, size_at, used_mark}
 use Rattle.bd_image.specs.Rules.{Obeys, ExtentCount, ExtentJoins, ExtentRange, FreeRecord, IsNameField, NameForm, RecordRest, UsedMark}
 use Rattle.bd_image.specs.Volumes.{extent_bytes, file_bytes, inode_at, record_bytes}
-use Rattle.bd_image.proofs.Extents.{AreMaximal-map, extents_of-blocks_of}
+use Rattle.bd_extents.proofs.Runs.{extents_of-blocks_of}
+use Rattle.bd_image.proofs.Runs.{AreMaximal-map}
 use Rattle.bd_image.proofs.Names.{name-field}
 use Rattle.bd_image.proofs.Parts.{part, part-add, part-number, part-one, part-pieces, part-zeros, same_append}
 use Rattle.bd_image.proofs.Taken.{file_at, inodes_of}

@@ -10,7 +10,7 @@ use Rattle.bd_image.specs.Rules.{IsInTail, IsLeastBreak, Obeys, TailZero}
 use Rattle.bd_image.specs.Tails.{AreTailsZero, IsFirstInTail, IsLeastInTails, IsTailZero}
 use Rattle.bd_image.proofs.Blocks.{blocks_before-more, range_with_len-more}
 
-length-last : (xs : List ℕ) (x : ℕ) → length (xs ++ x ∷ []) ≡ length xs + 1
+pub length-last : (xs : List ℕ) (x : ℕ) → length (xs ++ x ∷ []) ≡ length xs + 1
 length-last xs x = grind (arith, common_steps)
 
 at_last : (xs : List ℕ) (x : ℕ) → get_or (xs ++ x ∷ []) (length xs) 0 ≡ x

@@ -1,11 +1,10 @@
--- What holds of each accepted volume.
+-- What the writer asks of a volume and of its files.
 use Rattle.std.specs.Prelude.{◌≡◌, ◌*◌, ◌≤◌, length}
-use Rattle.bd_base.specs.declared.limits.TheConstants.{BLOCK_SIZE}
+use Rattle.bd_base.specs.declared.limits.TheConstants.{BLOCK_SIZE, EXTENTS}
 use Rattle.bd_base.specs.declared.volume.Inode.{Inode}
 use Rattle.bd_base.specs.declared.volume.Volume.{Volume}
 use Rattle.bd_base.specs.Extents.{extents_of}
 use Rattle.bd_base.specs.Inodes.{AreFiles}
-use Rattle.bd_image.specs.declared.layout.TheConstants.{MOST_EXTENTS}
 
 -- the volume has the bytes of all its blocks, and its files are those of an image
 pub record IsWithinLimits (v : Volume) : Type 0 where
@@ -15,4 +14,4 @@ pub record IsWithinLimits (v : Volume) : Type 0 where
 -- a file whose record has room for its name and its extents
 pub record FitsRecord (file : Inode) : Type 0 where
   pub name : length file.name ≤ 32
-  pub extents : length (extents_of file.blocks) ≤ MOST_EXTENTS
+  pub extents : length (extents_of file.blocks) ≤ EXTENTS

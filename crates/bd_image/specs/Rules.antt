@@ -1,10 +1,10 @@
 -- The nineteen rules of an image, in their order, and where each is broken.
 use Rattle.std.specs.Prelude.{◌≡◌, ◌≢◌, ◌⊎◌, ◌↔◌, ℕ, ◌+◌, ◌-◌, ◌*◌, ◌/◌, ◌%◌, ◌<◌, ◌≤◌, min, IsTrue, List, [], ◌∷◌, ◌++◌, length, take, replicate, Contains, codes}
-use Rattle.bd_base.specs.declared.limits.TheConstants.{BLOCK_SIZE, FILE_SIZE}
+use Rattle.bd_base.specs.declared.limits.TheConstants.{BLOCK_SIZE, EXTENTS, FILES, FILE_SIZE, IMAGE_SIZE}
 use Rattle.bd_base.specs.declared.volume.Extent.{Extent}
 use Rattle.bd_base.specs.Files.{blocks_for, data_start}
 use Rattle.bd_base.specs.Names.{IsName}
-use Rattle.bd_image.specs.declared.layout.TheConstants.{BITMAP_PLACE, EXTENT_BYTES, EXTENTS_FIELD, HEADER_BYTES, INODES_PLACE, LEAST_INODES, LEAST_LENGTH, LENGTH_PLACE, MOST_EXTENTS, MOST_INODES, MOST_LENGTH, NAME_FIELD, RECORD_BYTES, SIZE_FIELD, VERSION, VERSION_PLACE}
+use Rattle.bd_image.specs.declared.layout.TheConstants.{BITMAP_PLACE, EXTENT_BYTES, EXTENTS_FIELD, HEADER_BYTES, INODES_PLACE, LEAST_INODES, LEAST_LENGTH, LENGTH_PLACE, NAME_FIELD, RECORD_BYTES, SIZE_FIELD, VERSION, VERSION_PLACE}
 use Rattle.bd_image.specs.Layout.{IsUsed, block_count, blocks_at, byte_at, extent_at, extent_count, extent_place, inode_count, is_marked, name_field, perms_at, record_place, size_at, used_mark, version}
 
 -- the rules by what each is about
@@ -55,13 +55,13 @@ rule_number Bitmap = 19
 pub record IsLength (n : ℕ) : Type 0 where
   pub whole_blocks : n % BLOCK_SIZE ≡ 0
   pub least : LEAST_LENGTH ≤ n
-  pub most : n ≤ MOST_LENGTH
+  pub most : n ≤ IMAGE_SIZE
 
 -- a number of records that an image may have
 pub record IsInodeCount (m : ℕ) : Type 0 where
   pub whole_blocks : m % LEAST_INODES ≡ 0
   pub least : LEAST_INODES ≤ m
-  pub most : m ≤ MOST_INODES
+  pub most : m ≤ FILES
 
 -- the image is long enough for its records, and they are of a number that it may have
 pub record HasRecords (b : List ℕ) : Type 0 where
@@ -122,7 +122,7 @@ Obeys b FreeRecord =
     (j place : ℕ) → j < inode_count b → used_mark b j ≡ 0 → record_place j ≤ place → place < record_place j + RECORD_BYTES →
     byte_at b place ≡ 0
 Obeys b Perms = (j : ℕ) → IsUsed b j → perms_at b j ≤ 15
-Obeys b ExtentCount = (j : ℕ) → IsUsed b j → extent_count b j ≤ MOST_EXTENTS
+Obeys b ExtentCount = (j : ℕ) → IsUsed b j → extent_count b j ≤ EXTENTS
 Obeys b NameForm = (j : ℕ) → IsUsed b j → IsNameField (name_field b j)
 Obeys b NameFresh = (i j : ℕ) → IsUsed b i → IsUsed b j → i < j → name_field b i ≢ name_field b j
 Obeys b RecordRest = (j place : ℕ) → IsUsed b j → IsInRest b j place → byte_at b place ≡ 0
@@ -137,7 +137,7 @@ Obeys b Bitmap = (x : ℕ) → x < 8 * BLOCK_SIZE → IsTrue (is_marked b x) ↔
 
 -- the rule is broken at this place of the image
 abbrev pub BreaksAt : List ℕ → Rule → ℕ → Type 0
-BreaksAt b Length place = ¬ IsLength (length b) × (place ≡ min (length b) (MOST_LENGTH + 1))
+BreaksAt b Length place = ¬ IsLength (length b) × (place ≡ min (length b) (IMAGE_SIZE + 1))
 BreaksAt b Magic place = (take 8 b ≢ codes "BYPDFS01") × (place ≡ 0)
 BreaksAt b Version place = (version b ≢ VERSION) × (place ≡ VERSION_PLACE)
 BreaksAt b BlockCount place = (block_count b * BLOCK_SIZE ≢ length b) × (place ≡ LENGTH_PLACE)
@@ -148,7 +148,7 @@ BreaksAt b FreeRecord place =
     (j : ℕ) × (j < inode_count b) × (used_mark b j ≡ 0) × (record_place j ≤ place) × (place < record_place j + RECORD_BYTES)
     × (byte_at b place ≢ 0)
 BreaksAt b Perms place = (j : ℕ) × IsUsed b j × (15 < perms_at b j) × (place ≡ record_place j + 1)
-BreaksAt b ExtentCount place = (j : ℕ) × IsUsed b j × (MOST_EXTENTS < extent_count b j) × (place ≡ record_place j + 2)
+BreaksAt b ExtentCount place = (j : ℕ) × IsUsed b j × (EXTENTS < extent_count b j) × (place ≡ record_place j + 2)
 BreaksAt b NameForm place = (j : ℕ) × IsUsed b j × ¬ IsNameField (name_field b j) × (place ≡ record_place j + NAME_FIELD)
 BreaksAt b NameFresh place =
     (i : ℕ) × (j : ℕ) × IsUsed b i × IsUsed b j × (i < j) × (name_field b i ≡ name_field b j) × (place ≡ record_place j + NAME_FIELD)

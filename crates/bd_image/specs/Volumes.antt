@@ -2,14 +2,14 @@
 use Rattle.std.specs.Prelude.{◌≡◌, ℕ, ◌+◌, ◌-◌, ◌*◌, ◌^◌, nat_eq, nat_lt, cond, Bool, false, ◌||◌, List, ◌∷◌, ◌++◌, map, drop, length, replicate, sum_by, Option, None, Some, codes}
 use Rattle.std.specs.List.{range_with_len, list_any, flat_map}
 use Rattle.byteorder.specs.Endian.{little_bytes}
-use Rattle.bd_base.specs.declared.limits.TheConstants.{BLOCK_SIZE}
+use Rattle.bd_base.specs.declared.limits.TheConstants.{BLOCK_SIZE, EXTENTS}
 use Rattle.bd_base.specs.declared.volume.Extent.{Extent}
 use Rattle.bd_base.specs.declared.volume.Inode.{Inode}
 use Rattle.bd_base.specs.declared.volume.Volume.{Volume}
 use Rattle.bd_base.specs.Bytes.{AreBytes}
 use Rattle.bd_base.specs.Extents.{extents_of}
 use Rattle.bd_base.specs.Files.{data_start}
-use Rattle.bd_image.specs.declared.layout.TheConstants.{EXTENT_BYTES, HEADER_BYTES, MOST_EXTENTS, RECORD_BYTES, VERSION}
+use Rattle.bd_image.specs.declared.layout.TheConstants.{EXTENT_BYTES, HEADER_BYTES, RECORD_BYTES, VERSION}
 use Rattle.bd_image.specs.Layout.{block_count, blocks_at, inode_count, name_at, owner_at, perms_at, size_at, used_mark}
 use Rattle.bd_image.specs.Rules.{Accepted}
 
@@ -70,7 +70,7 @@ file_bytes file =
     let extents = extents_of file.blocks in
     1 ∷ file.perms ∷ little_bytes 2 (length extents) ++ little_bytes 4 file.owner ++ little_bytes 8 file.size
     ++ file.name ++ replicate (32 - length file.name) 0
-    ++ flat_map extent_bytes extents ++ replicate (EXTENT_BYTES * (MOST_EXTENTS - length extents) + 16) 0
+    ++ flat_map extent_bytes extents ++ replicate (EXTENT_BYTES * (EXTENTS - length extents) + 16) 0
 
 -- a record, all zeros where it is free
 abbrev pub record_bytes : Option Inode → List ℕ

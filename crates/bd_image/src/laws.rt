@@ -3,7 +3,7 @@ ghost use Rattle.std.specs.Prelude.{◌≡◌, ℕ, ◌≤◌, List, length, tak
 ghost use Rattle.byteorder.specs.Endian.{little_bytes, little_number};
 ghost use Rattle.bd_base.specs.Bytes.{AreBytes};
 ghost use Rattle.bd_base.specs.declared.volume.Volume.{Volume};
-ghost use Rattle.bd_image.specs.Limits.{IsWithinLimits};
+ghost use Rattle.bd_base.specs.Volumes.{IsSoundVolume};
 ghost use Rattle.bd_image.specs.Rules.{Accepted};
 ghost use Rattle.bd_image.specs.Volumes.{AcceptedVolume, image_of, volume_of};
 
@@ -23,7 +23,8 @@ pub fn one_volume()
     ensures says { (v : Volume) → AcceptedVolume v → volume_of (image_of v) ≡ v }
 {}
 
-/// An accepted volume has the bytes of all its blocks, and its files are files of an image.
-pub fn volume_within_limits()
-    ensures { (v : Volume) → AcceptedVolume v → IsWithinLimits v }
+/// A volume is that of an accepted image exactly where it is sound: what an image must hold, said of a volume alone.
+pub fn sound_volumes()
+    ensures sound { (v : Volume) → AcceptedVolume v → IsSoundVolume v }
+    ensures accepted { (v : Volume) → IsSoundVolume v → AcceptedVolume v }
 {}

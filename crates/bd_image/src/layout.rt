@@ -42,17 +42,8 @@ pub const EXTENTS_FIELD: u64 = 48;
 /// How many bytes an extent has.
 pub const EXTENT_BYTES: u64 = 8;
 
-/// How many extents a file may have.
-pub const MOST_EXTENTS: u64 = 24;
-
 /// How many records an image has at least, and it has a multiple of this.
 pub const LEAST_INODES: u64 = 16;
 
-/// How many records an image has at most.
-pub const MOST_INODES: u64 = 256;
-
 /// How many bytes an image has at least.
 pub const LEAST_LENGTH: u64 = 81_920;
-
-/// How many bytes an image has at most.
-pub const MOST_LENGTH: u64 = 67_108_864;

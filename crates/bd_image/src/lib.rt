@@ -10,11 +10,11 @@ mod refusals;
 mod writer;
 
 pub use error::ImageError;
-pub use laws::{number_gives_back_its_bytes, one_image, one_volume, volume_within_limits};
+pub use laws::{number_gives_back_its_bytes, one_image, one_volume, sound_volumes};
 pub use layout::{
     BITMAP_PLACE, EXTENT_BYTES, EXTENTS_FIELD, HEADER_BYTES, INODES_PLACE, LEAST_INODES,
-    LEAST_LENGTH, LENGTH_PLACE, MAGIC, MOST_EXTENTS, MOST_INODES, MOST_LENGTH, NAME_FIELD,
-    OWNER_FIELD, RECORD_BYTES, RECORDS_PLACE, SIZE_FIELD, VERSION, VERSION_PLACE,
+    LEAST_LENGTH, LENGTH_PLACE, MAGIC, NAME_FIELD, OWNER_FIELD, RECORD_BYTES, RECORDS_PLACE,
+    SIZE_FIELD, VERSION, VERSION_PLACE,
 };
 pub use reader::parse;
 pub use refusals::{one_refusal, refused_is_not_accepted};

@@ -1,6 +1,5 @@
 //! Writing a volume as an image.
 mod bitmap;
-mod extents;
 mod header;
 mod numbers;
 mod records;

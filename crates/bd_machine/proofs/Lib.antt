@@ -17,5 +17,8 @@ pub mod JournalLaws
 pub mod RuleLaws
 pub mod Slots
 pub mod Descriptors
+pub mod Determined
 pub mod StoreLaws
 pub mod Volumes
+pub mod CallOrder
+pub mod HistoryLaws

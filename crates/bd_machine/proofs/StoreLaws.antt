@@ -1,4 +1,4 @@
--- A step of a running call keeps a store valid, and a store with nothing open is valid where its files are sound.
+-- A step of a running call keeps a store valid, and the store of a sound volume with nothing open is valid.
 use Rattle.std.proofs.Common.{◌≡◌, ◌≢◌, ℕ, ◌+◌, ◌<◌, ◌≤◌, Bool, true, false, cond, ◌||◌, not, List, [], ◌∷◌, ◌++◌, map, length, replicate, zero, suc, Option, None, Some, refl, sym, ap, ◌∙◌, subst, append_assoc, arith, ⊎_elim}
 use Rattle.std.specs.Prelude.{nat_eq, nat_lt, slice_get, slice_index_or, slice_set, All, IsSome, IsTrue}
 use Rattle.std.specs.Option.{option_map, option_map_or}
@@ -21,6 +21,7 @@ use Rattle.bd_base.specs.declared.script.Process.{Process}
 use Rattle.bd_base.specs.declared.volume.Inode.{Inode}
 use Rattle.bd_base.specs.declared.range.Range.{Range}
 use Rattle.bd_base.specs.Inodes.{has_name, id_of, inode_at}
+use Rattle.bd_base.specs.Volumes.{IsSoundVolume}
 use Rattle.bd_machine.specs.declared.entry.At.{At}
 use Rattle.bd_machine.specs.declared.entry.Way.{Way}
 use Rattle.bd_machine.specs.declared.entry.Entry.{Entry}
@@ -29,7 +30,7 @@ use Rattle.bd_machine.specs.Calls.{at_of, is_ended_by, is_mapped, opened_fd}
 use Rattle.bd_machine.specs.History.{change_of, effect_of, settled, with_descriptor}
 use Rattle.bd_machine.specs.Laws.{AreOfCall, IsNextEntry, StartIsValid, StepKeepsValid}
 use Rattle.bd_machine.specs.Rules.{EntryRule, IsOpen, RightFile, Rights, NoPlain, FitsStore}
-use Rattle.bd_machine.specs.Store.{Descriptor, HasRows, HasSoundFiles, Store, Valid, attaches_by, descriptor_at, has_part, has_plain, in_slot, is_empty_slot, is_plain_of, parts_in, size_of, slots_of, with_part, with_slot, with_work, work_of}
+use Rattle.bd_machine.specs.Store.{Descriptor, HasRows, Store, Valid, attaches_by, descriptor_at, has_part, has_plain, in_slot, is_empty_slot, is_plain_of, parts_in, size_of, slots_of, volume_in, with_part, with_slot, with_work, work_of}
 use Rattle.bd_machine.proofs.Descriptors.{AreSound, IsSound, KeepsFile, all_sound, alter, altered, attaching, not_plain, put, rows_slot, rows_work, sound_all, sound_work}
 use Rattle.bd_machine.proofs.Slots.{none_before, none_joined, other_row, row_there, row_within}
 
@@ -152,14 +153,14 @@ direct_one d none =
     ] none
 
 -- the store after an entry that leaves its call running
-running : (s : Store) (opens : List (List (Option Descriptor))) (e : Entry) → HasSoundFiles s.total s.files s.bytes → HasRows (record s { opens = opens }) →
+running : (s : Store) (opens : List (List (Option Descriptor))) (e : Entry) → IsSoundVolume (volume_in s) → HasRows (record s { opens = opens }) →
     AreSound (record s { opens = opens }) (attaching (slice_set s.work (at_of e).process (work_of s (at_of e).process ++ e ∷ []))) →
     Valid (with_work (record s { opens = opens }) (at_of e).process (work_of s (at_of e).process ++ e ∷ []))
-running s opens e files rows all =
+running s opens e volume rows all =
     let p = (at_of e).process in
     let entries = work_of s p ++ e ∷ [] in
     record {
-      files = files;
+      volume = volume;
       rows = rows_work (record s { opens = opens }) p entries rows;
       descriptors = all_sound (with_work (record s { opens = opens }) p entries) (record { at = all.at });
     }
@@ -171,11 +172,11 @@ know_keeps : KeepsFile know
 know_keeps = record { file = λ d. refl; plain = λ file d. refl }
 
 -- the store after an entry that ends its call
-ended : (c : Store) (p fd : ℕ) → p < length c.opens → HasSoundFiles c.total c.files c.bytes → HasRows c → AreSound c (attaching c.work) →
+ended : (c : Store) (p fd : ℕ) → p < length c.opens → IsSoundVolume (volume_in c) → HasRows c → AreSound c (attaching c.work) →
     ((d : Descriptor) → descriptor_at c p fd ≡ Some d → d.attached ≢ [] → d.told ≤ size_of c d.file) →
     ((other : ℕ) → other ≢ fd → attaching c.work p other ≡ false) →
     Valid (with_descriptor (with_work c p []) p fd know)
-ended c p fd within files rows all told others =
+ended c p fd within volume rows all told others =
     let quiet = with_work c p [] in
     let sound : AreSound (with_descriptor quiet p fd know) (attaching quiet.work) =
     alter quiet p fd know know_keeps (attaching c.work) (attaching quiet.work) (record { at = all.at })
@@ -188,7 +189,7 @@ ended c p fd within files rows all told others =
     (λ differ. subst (λ (es : List Entry). list_any (attaches_by other) es ≡ false) (other_row c.work p [] process differ) none)
     (cases_eq process p)) in
     record {
-      files = files;
+      volume = volume;
       rows = rows_slot quiet p fd (option_map know (descriptor_at quiet p fd)) within (rows_work c p [] rows);
       descriptors = all_sound (with_descriptor quiet p fd know) (record { at = sound.at });
     }
@@ -227,7 +228,7 @@ opened-keeps s name mode how at file fd entry_mode entry_how valid next keeps =
     (λ process other ne none. none_before (attaches_by other) s.work p e process none) in
     subst (λ (b : Bool). Valid (cond b (settled call (work_of s p ++ e ∷ []) p (change_of s e)) (with_work (change_of s e) p (work_of s p ++ e ∷ []))))
     (sym (still_open (work_of s p) e next.unfinished refl))
-    (running s (slice_set s.opens p row) e valid.files (rows_slot s p fd (Some new) within valid.rows) (record { at = all.at }))
+    (running s (slice_set s.opens p row) e valid.volume (rows_slot s p fd (Some new) within valid.rows) (record { at = all.at }))
 
 -- it attaches a right
 attached-keeps : (s : Store) (name : List ℕ) (mode : Mode) (how : How) (at : At) (fd part : ℕ) →
@@ -259,7 +260,7 @@ attached-keeps s name mode how at fd part valid next keeps =
     (λ process other ne none. none_before (attaches_by other) s.work p e process none) in
     subst (λ (b : Bool). Valid (cond b (settled call (work_of s p ++ e ∷ []) p (change_of s e)) (with_work (change_of s e) p (work_of s p ++ e ∷ []))))
     (sym (still_open (work_of s p) e next.unfinished refl))
-    (running s (slice_set s.opens p (slice_set (slots_of s p) fd (option_map join (descriptor_at s p fd)))) e valid.files (rows_slot s p fd _ within valid.rows) (record { at = all.at }))
+    (running s (slice_set s.opens p (slice_set (slots_of s p) fd (option_map join (descriptor_at s p fd)))) e valid.volume (rows_slot s p fd _ within valid.rows) (record { at = all.at }))
 
 -- it tells how many are attached
 mapped-keeps : (s : Store) (name : List ℕ) (mode : Mode) (how : How) (at : At) (fd count : ℕ) →
@@ -286,7 +287,7 @@ mapped-keeps s name mode how at fd count valid next keeps =
     let rows = rows_slot s p fd (option_map tell (descriptor_at s p fd)) within valid.rows in
     let still_within : p < length c.opens = let same : length (slice_set s.opens p (slice_set (slots_of s p) fd (option_map tell (descriptor_at s p fd)))) ≡ length s.opens = length-set s.opens p _ in omega arith in
     let at_end : Valid (with_descriptor (with_work c p []) p fd know) =
-    ended c p fd still_within valid.files rows (record { at = all.at })
+    ended c p fd still_within valid.volume rows (record { at = all.at })
     (λ d is some.
     let was = altered s p fd tell d is in
     let same : (tell was.0).told ≡ d.told = ap (λ (x : Descriptor). x.told) was.2 in
@@ -319,10 +320,10 @@ access-keeps s read_fd off len at piece fd file index block range wrote way byte
     let work = sound_work s (slice_set s.work p entries) (attaching s.work) before (λ process other absent. none_before (attaches_by other) s.work p e process absent) in
     record { at = work.at } in
     elim (is_ended_by call entries) as (λ b. Valid (cond b (settled call entries p s) (with_work s p entries))) [
-      | true ↦ ended s p read_fd within valid.files valid.rows before
+      | true ↦ ended s p read_fd within valid.volume valid.rows before
           (λ d is some. ((before.at p read_fd d is).sizes some (none read_fd)).1)
           (λ other differ. none other)
-      | false ↦ running s s.opens e valid.files valid.rows (record { at = all.at })
+      | false ↦ running s s.opens e valid.volume valid.rows (record { at = all.at })
     ]
 
 keeps-valid : (s : Store) (call : Call) (e : Entry) → Valid s → IsNextEntry s call e → ((rule : EntryRule) → FitsStore s call e rule) → Valid (effect_of s call e)
@@ -352,8 +353,8 @@ none_at_start (p ∷ processes) zero fd d e = none_in_empty DESCRIPTORS fd d e
 none_at_start (p ∷ processes) (suc process) fd d e = none_at_start processes process fd d e
 
 pub start_is_valid : StartIsValid
-start_is_valid v script files = record {
-  files = files;
+start_is_valid v script volume = record {
+  volume = volume;
   rows = record {
     uids = length-map script.processes (λ (p : Process). p.uid) ∙ sym (length-map script.processes (λ (p : Process). replicate {A = Option Descriptor} DESCRIPTORS None));
     work = length-map script.processes (λ (p : Process). []) ∙ sym (length-map script.processes (λ (p : Process). replicate {A = Option Descriptor} DESCRIPTORS None));

@@ -3,14 +3,16 @@ use Rattle.std.specs.Prelude.{◌≡◌, ℕ, ◌↔◌, false, List, [], ◌∷
 use Rattle.bd_base.specs.declared.script.Call.{Call}
 use Rattle.bd_base.specs.declared.script.Script.{Script}
 use Rattle.bd_base.specs.declared.volume.Volume.{Volume}
+use Rattle.bd_base.specs.Volumes.{IsSoundVolume}
 use Rattle.bd_machine.specs.declared.entry.Entry.{Entry}
 use Rattle.bd_machine.specs.declared.turn.Event.{Event}
-use Rattle.bd_machine.specs.Course.{after_events, visible}
+use Rattle.bd_machine.specs.Course.{IsCourse, after_events, visible}
 use Rattle.bd_machine.specs.Calls.{at_of, is_ended_by}
-use Rattle.bd_machine.specs.History.{InOrderFrom, Legal, Step}
+use Rattle.bd_machine.specs.History.{InOrderFrom, InOrderSoFar, Legal, Step}
 use Rattle.bd_machine.specs.Machine.{State, after_turn, visible_of}
 use Rattle.bd_machine.specs.Rules.{BreaksRule, EntryRule, IsOfCall, entry_rule_number}
-use Rattle.bd_machine.specs.Store.{HasSoundFiles, Store, Valid, start_store, work_of}
+use Rattle.bd_machine.specs.Simple.{IsSimpleText}
+use Rattle.bd_machine.specs.Store.{Store, Valid, start_store, work_of}
 
 -- each of these entries is one that the call makes, after those before it
 abbrev pub AreOfCall : Call → List Entry → List Entry → Type 0
@@ -26,9 +28,15 @@ pub record IsNextEntry (s : Store) (call : Call) (e : Entry) : Type 0 where
 abbrev pub StepKeepsValid : Type 0
 StepKeepsValid = (s : Store) (call : Call) (e : Entry) (t : Store) → Valid s → IsNextEntry s call e → Step s call e t → Valid t
 
--- where the files of a volume are sound, the store that begins with it is valid
+-- the store that begins with a sound volume is valid
 abbrev pub StartIsValid : Type 0
-StartIsValid = (v : Volume) (script : Script) → HasSoundFiles v.total v.inodes v.bytes → Valid (start_store v script)
+StartIsValid = (v : Volume) (script : Script) → IsSoundVolume v → Valid (start_store v script)
+
+-- a legal journal in order leads from a sound volume to a valid store
+abbrev pub HistoriesKeepValid : Type 0
+HistoriesKeepValid =
+    (v : Volume) (script : Script) (journal : List Entry) (t : Store) →
+    IsSoundVolume v → Legal script (start_store v script) journal t → InOrderSoFar script journal → Valid t
 
 -- a journal in two parts leads where the first part and then the second lead
 abbrev pub LegalInParts : Type 0
@@ -46,6 +54,16 @@ InOrderInParts =
 abbrev pub LeadsToOneStore : Type 0
 LeadsToOneStore =
     (script : Script) (s : Store) (journal : List Entry) (t u : Store) → Legal script s journal t → Legal script s journal u → t ≡ u
+
+-- a store and a script have one course: one trace, and one state at its end
+abbrev pub HasOneCourse : Type 0
+HasOneCourse =
+    (start : Store) (script : Script) (trace other : List Event) (m n : State) →
+    IsCourse start script trace m → IsCourse start script other n → (trace ≡ other) × (m ≡ n)
+
+-- a text is that of one simple script at most
+abbrev pub IsOfOneScript : Type 0
+IsOfOneScript = (v : Volume) (text : List ℕ) (s t : Script) → IsSimpleText v text s → IsSimpleText v text t → s ≡ t
 
 -- a turn adds its visible entry at the end of the journal, and changes nothing before it
 abbrev pub TurnsOnlyAdd : Type 0

@@ -10,7 +10,6 @@ use Rattle.bd_base.specs.declared.script.Mode.{Mode}
 use Rattle.bd_base.specs.declared.script.Process.{Process}
 use Rattle.bd_base.specs.declared.script.Script.{Script}
 use Rattle.bd_base.specs.declared.volume.Inode.{Inode}
-use Rattle.bd_base.specs.declared.volume.Volume.{Volume}
 use Rattle.bd_base.specs.Inodes.{id_of}
 use Rattle.bd_base.specs.Pieces.{Piece, pieces}
 use Rattle.bd_base.specs.Policy.{open_denial}
@@ -166,7 +165,3 @@ LowersRest Idle old new = new ≡ old
 -- some actor's turn would have an effect
 abbrev pub SomeActorActs : State → Type 0
 SomeActorActs m = (actor : ℕ) × (actor < 2 * length m.script.processes + 1) × (answer_of m actor ≢ Idle)
-
--- the volume that a store stands for
-abbrev pub volume_in : Store → Volume
-volume_in s = record { total = s.total; inodes = s.files; bytes = s.bytes }

@@ -1,8 +1,8 @@
 -- The plain store: files as lists of blocks, the bytes of all blocks, and descriptors with sets of rights.
-use Rattle.std.specs.Prelude.{◌≡◌, ◌≢◌, ℕ, ◌+◌, ◌*◌, ◌<◌, ◌≤◌, nat_eq, nat_lt, cond, Bool, false, ◌&&◌, not, List, [], ◌∷◌, map, filter, length, slice_index_or, slice_set, Option, None, Some, IsSome, All, IsTrue, true, ◌||◌, ◌/◌, ◌%◌, replicate}
+use Rattle.std.specs.Prelude.{◌≡◌, ◌≢◌, ℕ, ◌<◌, ◌≤◌, nat_eq, nat_lt, cond, Bool, false, ◌&&◌, not, List, [], ◌∷◌, map, filter, length, slice_index_or, slice_set, Option, None, Some, IsSome, All, IsTrue, true, ◌||◌, replicate}
 use Rattle.std.specs.Option.{option_and_then, option_map_or}
 use Rattle.std.specs.List.{find, flat_map, list_any, position_from, range_with_len}
-use Rattle.bd_base.specs.declared.limits.TheConstants.{BLOCK_SIZE, FRAGMENTS, DESCRIPTORS}
+use Rattle.bd_base.specs.declared.limits.TheConstants.{FRAGMENTS, DESCRIPTORS}
 use Rattle.bd_base.specs.declared.volume.Inode.{Inode}
 use Rattle.bd_base.specs.declared.volume.Volume.{Volume}
 use Rattle.bd_base.specs.declared.script.How.{How}
@@ -11,7 +11,8 @@ use Rattle.bd_base.specs.declared.script.Mode.{Mode}
 use Rattle.bd_base.specs.declared.script.Process.{Process}
 use Rattle.bd_base.specs.declared.script.Script.{Script}
 use Rattle.bd_base.specs.Files.{limit_of, parts_for}
-use Rattle.bd_base.specs.Inodes.{AreValidFiles, blocks_at, inode_at}
+use Rattle.bd_base.specs.Inodes.{blocks_at, inode_at}
+use Rattle.bd_base.specs.Volumes.{IsSoundVolume}
 use Rattle.bd_machine.specs.declared.entry.Entry.{Entry}
 use Rattle.bd_machine.specs.declared.entry.Entry.TheVariants.{Attached}
 
@@ -147,10 +148,9 @@ with_slot s process fd slot = record s { opens = slice_set s.opens process (slic
 abbrev pub with_work : Store → ℕ → List Entry → Store
 with_work s process entries = record s { work = slice_set s.work process entries }
 
--- what the files of a valid store are, with the number and the bytes of its blocks: valid files, of which the last blocks are zero past the size
-pub record HasSoundFiles (total : ℕ) (files : List (Option Inode)) (bytes : List ℕ) : Type 0 where
-  pub valid : AreValidFiles total files
-  pub tails : (id i d : ℕ) → size_at files id ≤ i → i < BLOCK_SIZE * length (blocks_at (inode_at files id)) → slice_index_or bytes (BLOCK_SIZE * slice_index_or (blocks_at (inode_at files id)) (i / BLOCK_SIZE) d + i % BLOCK_SIZE) 0 ≡ 0
+-- the volume that a store says
+abbrev pub volume_in : Store → Volume
+volume_in s = record { total = s.total; inodes = s.files; bytes = s.bytes }
 
 -- each process has a row of descriptors, each row as many slots as a process has numbers for them, and a row for its running call
 pub record HasRows (s : Store) : Type 0 where
@@ -173,7 +173,7 @@ pub record IsDescriptor (s : Store) (process fd : ℕ) (d : Descriptor) : Type 0
 
 -- what a store is that the steps of running calls keep
 pub record Valid (s : Store) : Type 0 where
-  pub files : HasSoundFiles s.total s.files s.bytes
+  pub volume : IsSoundVolume (volume_in s)
   pub rows : HasRows s
   pub descriptors : (process fd : ℕ) (d : Descriptor) → descriptor_at s process fd ≡ Some d → IsDescriptor s process fd d
 

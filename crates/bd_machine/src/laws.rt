@@ -1,5 +1,5 @@
 //! Laws of stores, journals and rules. Each is the contract of a function that does nothing.
-ghost use Rattle.bd_machine.specs.Laws.{InOrderInParts, LeadsToOneStore, LegalInParts, NumbersDiffer, OneLeastRule, RunsOnlyAdd, StartIsValid, StepKeepsValid, TurnsOnlyAdd};
+ghost use Rattle.bd_machine.specs.Laws.{HasOneCourse, HistoriesKeepValid, InOrderInParts, IsOfOneScript, LeadsToOneStore, LegalInParts, NumbersDiffer, OneLeastRule, RunsOnlyAdd, StartIsValid, StepKeepsValid, TurnsOnlyAdd};
 
 /// A journal may be followed in two parts.
 pub fn journals_in_parts()
@@ -10,6 +10,16 @@ pub fn journals_in_parts()
 /// A journal that is legal from a store leads to one store only.
 pub fn one_end()
     ensures { LeadsToOneStore }
+{}
+
+/// The trace of a course, its journal and its last store are determined by the first store and the script.
+pub fn one_course()
+    ensures { HasOneCourse }
+{}
+
+/// The simple script of a text is determined.
+pub fn one_script()
+    ensures { IsOfOneScript }
 {}
 
 /// Turns add entries at the end of the journal, and change none.
@@ -29,7 +39,12 @@ pub fn steps_keep_valid()
     ensures { StepKeepsValid }
 {}
 
-/// A store with nothing open is valid where its files are sound.
+/// A store of a sound volume with nothing open is valid.
 pub fn start_is_valid()
     ensures { StartIsValid }
+{}
+
+/// Every store that a legal journal in order leads to, from a sound volume with nothing open, is valid; so is its volume.
+pub fn histories_keep_valid()
+    ensures { HistoriesKeepValid }
 {}

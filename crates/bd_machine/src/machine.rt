@@ -5,9 +5,10 @@ ghost use Rattle.bd_base.specs.Inodes.{AreValidFiles};
 ghost use Rattle.bd_base.specs.Volumes.{IsVolume};
 ghost use Rattle.bd_machine.specs.Course.{actor_count};
 ghost use Rattle.bd_machine.specs.History.{InOrder};
-ghost use Rattle.bd_machine.specs.Machine.{LowersRest, SomeActorActs, all_ended, answer_of, volume_in};
+ghost use Rattle.bd_machine.specs.Machine.{LowersRest, SomeActorActs, all_ended, answer_of};
 ghost use Rattle.bd_machine.specs.Running.{IsHistory, booted, stepped};
 ghost use Rattle.bd_machine.specs.Simple.{IsSimple};
+ghost use Rattle.bd_machine.specs.Store.{volume_in};
 
 use crate::disk::Disk;
 use crate::entry::{Entry, EntryList};
@@ -107,11 +108,11 @@ impl Machine {
         self.run.trace.as_slice()
     }
 
-    /// The volume as the turns so far have left it: the one from which the machine started, since no simple script writes.
+    /// The volume as the turns so far have left it.
     pub fn volume(&self) -> Result<Volume, OutOfMemory>
-        ensures left { IfOk result (λ volume. volume ≡ volume_in self.now.state.store) }
-        ensures unchanged { IfOk result (λ volume. volume ≡ self.now.start) }
+        ensures { IfOk result (λ volume. volume ≡ volume_in self.now.state.store) }
     {
+        // No simple script writes, so it is the one from which the machine started.
         self.start.copy()
     }
 

@@ -1,7 +1,7 @@
 //! Reading simple scripts: one process opens a file for direct access and reads its beginning.
 ghost use Rattle.std.specs.Prelude.{◌≡◌, ◌≢◌, ◌^◌, ◌<◌, ◌≤◌, ℕ, List, [], ◌∷◌, ◌++◌, IsTrue, IfOk, IfErr, MatchOption, None, false, ◌↔◌};
 ghost use Rattle.std.specs.Fmt.{decimal};
-ghost use Rattle.bd_base.specs.Names.{IsName, IsNameByte};
+ghost use Rattle.bd_base.specs.Names.{IsName};
 ghost use Rattle.bd_base.specs.Volumes.{IsVolume};
 ghost use Rattle.bd_base.specs.declared.script.Mode.TheVariants.{R};
 ghost use Rattle.bd_base.specs.Policy.{open_denial};
@@ -12,7 +12,7 @@ ghost use Rattle.bd_machine.specs.Texts.{HasNoName, HasNoNumber, has_byte};
 use crate::error::ScriptError;
 use crate::files::{find_file, inode_of};
 use bd_base::{
-    BLOCK_SIZE, Call, How, Inode, List, Mode, NAME_SIZE, OutOfMemory, Process, Script, Volume,
+    BLOCK_SIZE, Call, How, Inode, List, Mode, OutOfMemory, Process, Script, Volume, is_name,
 };
 use bd_fs::{Ask, denial};
 use std::alloc::Global;
@@ -62,23 +62,6 @@ fn number_field<'a>(text: &'a [u8], front: &[u8]) -> Option<(u64, &'a [u8])>
         return None;
     };
     Some((number, after))
-}
-
-/// Whether the byte may stand in a name.
-fn is_name_byte(byte: u8) -> bool
-    ensures { IsTrue result ↔ IsNameByte byte }
-{
-    matches!(byte, b'a'..=b'z' | b'0'..=b'9' | b'.' | b'_' | b'-')
-}
-
-/// Whether these bytes are a file's name.
-fn is_name(bytes: &[u8]) -> bool
-    ensures { IsTrue result ↔ IsName bytes.now }
-{
-    if bytes.is_empty() || bytes.len() > NAME_SIZE as usize {
-        return false;
-    }
-    bytes.iter().all(|b| is_name_byte(*b))
 }
 
 /// A name field: what stands before the name, the name, and a space. Answers the name and what follows.

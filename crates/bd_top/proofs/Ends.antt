@@ -10,10 +10,10 @@ use Rattle.bd_top.specs.declared.status.Status.{Status}
 use Rattle.bd_top.specs.declared.status.Status.TheVariants.{Done, Usage, ReadFault, WriteFault, BadImage, BadScript, OutOfMemory}
 use Rattle.bd_top.specs.declared.status.To.TheVariants.{Out, Disk}
 use Rattle.bd_top.specs.declared.status.Which.TheVariants.{Image, Script as Script_}
-use Rattle.bd_top.specs.Causes.{CanCheck, CanReplay, CheckEnd, IsDone, RefusesImage, RefusesScript, ReplayEnd}
-use Rattle.bd_top.specs.Outside.{ForTold, Reading, Writing}
-use Rattle.bd_top.specs.Runs.{IsImageRead, IsReplay}
-use Rattle.bd_top.specs.Steps.{LineWritten}
+use Rattle.bd_top.specs.Causes.{CanCheck, CanReplay, CheckEnd, IsDone, NothingDone, RefusesImage, RefusesScript, ReplayEnd}
+use Rattle.bd_top.specs.Outside.{ForTold, Reading, Writing, WroteNothing}
+use Rattle.bd_top.specs.Runs.{IsBadImage, IsImageRead, IsReplay}
+use Rattle.bd_top.specs.Steps.{ImageRefusal, LineWritten, ReplayRefusal, RunWritten}
 use Rattle.bd_top.specs.Totals.{check_line}
 
 -- ---- from the end to when it comes
@@ -40,9 +40,9 @@ none_broken : NotAccepted → (i : Reading) (v : Volume) (b : List ℕ) (rule pl
 none_broken not i v b rule place left broken read = not b rule place broken (image_told i v b left read)
 
 -- two refusals of one image are the same
-same_refusal : OneRefusal → (i : Reading) (b : List ℕ) (rule place r p : ℕ) → i.left ≡ Some b → Broken b rule place → ForTold i.left (λ bytes. Broken bytes r p) → BadImage r p ≡ BadImage rule place
-same_refusal one i b rule place r p left broken fact =
-    let here : Broken b r p = told i.left b (λ bytes. Broken bytes r p) left fact in
+same_refusal : OneRefusal → (i : Reading) (b : List ℕ) (rule place r p : ℕ) → i.left ≡ Some b → Broken b rule place → IsBadImage i r p → BadImage r p ≡ BadImage rule place
+same_refusal one i b rule place r p left broken bad =
+    let here : Broken b r p = told i.left b (λ bytes. Broken bytes r p) left bad.broken in
     let same : (r ≡ rule) × (p ≡ place) = one b r p rule place here broken in
     rw (same.0, same.1) refl
 
@@ -50,9 +50,9 @@ pub replay_refuses_image : NotAccepted → OneRefusal → (i s : Reading) (o d :
 replay_refuses_image not one i s o d outcome Done end b rule place left broken = absurd (none_broken not i end.2.volume b rule place left broken end.2.image_read)
 replay_refuses_image not one i s o d outcome Usage end b rule place left broken = absurd end
 replay_refuses_image not one i s o d outcome (ReadFault Image) end b rule place left broken = inr (inl refl)
-replay_refuses_image not one i s o d outcome (ReadFault Script_) end b rule place left broken = absurd (none_broken not i end.2.0 b rule place left broken end.2.1)
+replay_refuses_image not one i s o d outcome (ReadFault Script_) end b rule place left broken = absurd (none_broken not i end.0.0 b rule place left broken end.0.1)
 replay_refuses_image not one i s o d outcome (BadImage r p) end b rule place left broken = inl (same_refusal one i b rule place r p left broken end.0)
-replay_refuses_image not one i s o d outcome (BadScript line r) end b rule place left broken = absurd (none_broken not i end.3.0 b rule place left broken end.3.1)
+replay_refuses_image not one i s o d outcome (BadScript line r) end b rule place left broken = absurd (none_broken not i end.0.0 b rule place left broken end.0.1)
 replay_refuses_image not one i s o d outcome (WriteFault Out) end b rule place left broken = absurd (none_broken not i end.2.volume b rule place left broken end.2.image_read)
 replay_refuses_image not one i s o d outcome (WriteFault Disk) end b rule place left broken = absurd (none_broken not i end.2.volume b rule place left broken end.2.image_read)
 replay_refuses_image not one i s o d outcome OutOfMemory end b rule place left broken = inr (inr refl)
@@ -82,8 +82,8 @@ replay_refuses_script not i s o d outcome Usage end b text image_left script_lef
 replay_refuses_script not i s o d outcome (ReadFault Image) end b text image_left script_left accepted not_simple = inr (inl refl)
 replay_refuses_script not i s o d outcome (ReadFault Script_) end b text image_left script_left accepted not_simple = inr (inr (inl refl))
 replay_refuses_script not i s o d outcome (BadImage r p) end b text image_left script_left accepted not_simple =
-    absurd (not b r p (told i.left b (λ bytes. Broken bytes r p) image_left end.0) accepted)
-replay_refuses_script not i s o d outcome (BadScript line r) end b text image_left script_left accepted not_simple = inl (rw (end.0, end.1) refl)
+    absurd (not b r p (told i.left b (λ bytes. Broken bytes r p) image_left end.0.broken) accepted)
+replay_refuses_script not i s o d outcome (BadScript line r) end b text image_left script_left accepted not_simple = inl (rw (end.0.2.no_line, end.0.2.no_rule) refl)
 replay_refuses_script not i s o d outcome (WriteFault Out) end b text image_left script_left accepted not_simple = absurd (simple_told i s outcome b text end.0 end.1 image_left script_left not_simple end.2)
 replay_refuses_script not i s o d outcome (WriteFault Disk) end b text image_left script_left accepted not_simple = absurd (simple_told i s outcome b text end.0 end.1 image_left script_left not_simple end.2)
 replay_refuses_script not i s o d outcome OutOfMemory end b text image_left script_left accepted not_simple = inr (inr (inr refl))
@@ -99,9 +99,9 @@ pub replay_completes : NotAccepted → (i s : Reading) (o d : Writing) (outcome 
 replay_completes not i s o d outcome Done end can = inl refl
 replay_completes not i s o d outcome Usage end can = absurd end
 replay_completes not i s o d outcome (ReadFault Image) end can = absurd (can.image_reads end.0)
-replay_completes not i s o d outcome (ReadFault Script_) end can = absurd (can.script_reads end.0)
-replay_completes not i s o d outcome (BadImage r p) end can = absurd (not can.bytes r p (told i.left can.bytes (λ bytes. Broken bytes r p) can.image_left end.0) can.accepted)
-replay_completes not i s o d outcome (BadScript line r) end can = absurd (not_refused i s end.3.0 o d can end.3.1 end.3.2)
+replay_completes not i s o d outcome (ReadFault Script_) end can = absurd (can.script_reads end.1)
+replay_completes not i s o d outcome (BadImage r p) end can = absurd (not can.bytes r p (told i.left can.bytes (λ bytes. Broken bytes r p) can.image_left end.0.broken) can.accepted)
+replay_completes not i s o d outcome (BadScript line r) end can = absurd (not_refused i s end.0.0 o d can end.0.1 end.0.2.not_simple)
 replay_completes not i s o d outcome (WriteFault Out) end can = absurd (can.out_writes end.3.0)
 replay_completes not i s o d outcome (WriteFault Disk) end can = absurd (can.disk_writes end.3.0)
 replay_completes not i s o d outcome OutOfMemory end can = inr refl
@@ -111,7 +111,7 @@ check_completes not i o Done end can = inl refl
 check_completes not i o Usage end can = absurd end
 check_completes not i o (ReadFault Image) end can = absurd (can.image_reads end.0)
 check_completes not i o (ReadFault Script_) end can = absurd end
-check_completes not i o (BadImage r p) end can = absurd (not can.bytes r p (told i.left can.bytes (λ bytes. Broken bytes r p) can.image_left end.0) can.accepted)
+check_completes not i o (BadImage r p) end can = absurd (not can.bytes r p (told i.left can.bytes (λ bytes. Broken bytes r p) can.image_left end.0.broken) can.accepted)
 check_completes not i o (BadScript line r) end can = absurd end
 check_completes not i o (WriteFault Out) end can = absurd (can.out_writes end.2.0)
 check_completes not i o (WriteFault Disk) end can = absurd end
@@ -124,7 +124,50 @@ replay_says_command i s o d outcome status end usage = let there : ⊥ = subst (
 pub check_says_command : (i : Reading) (o : Writing) (status : Status) → CheckEnd i o status → status ≡ Usage → ⊥
 check_says_command i o status end usage = let there : ⊥ = subst (CheckEnd i o) usage end in there
 
--- ---- from the writing of a line to the end of a check
+-- ---- from a run, or from the want of one, to the end of a replay
+
+-- a run whose report and image were written
+pub run_written : (i s : Reading) (o d : Writing) (outcome : Outcome) (report final : List ℕ) (status : Status) →
+    IsReplay i s outcome.journal outcome.trace report final → RunWritten o d report final status → ReplayEnd i s o d outcome status
+run_written i s o d outcome report final Done run written = (report, final, run, written)
+run_written i s o d outcome report final (WriteFault Out) run written = (report, final, run, written)
+run_written i s o d outcome report final (WriteFault Disk) run written = (report, final, run, written)
+run_written i s o d outcome report final OutOfMemory run written = inr (report, final, run, written)
+run_written i s o d outcome report final Usage run written = absurd written
+run_written i s o d outcome report final (ReadFault which) run written = absurd written
+run_written i s o d outcome report final (BadImage rule place) run written = absurd written
+run_written i s o d outcome report final (BadScript line rule) run written = absurd written
+
+-- a run that was not made
+pub run_refused : (i s : Reading) (o d : Writing) (outcome : Outcome) (status : Status) → NothingDone o d outcome → ReplayRefusal i s status → ReplayEnd i s o d outcome status
+run_refused i s o d outcome (ReadFault Image) none (inl refused) = (refused.0, refused.1, none)
+run_refused i s o d outcome (ReadFault Image) none (inr refused) = absurd refused.2
+run_refused i s o d outcome (ReadFault Script_) none (inl refused) = absurd refused.0
+run_refused i s o d outcome (ReadFault Script_) none (inr refused) = ((refused.0, refused.1), refused.2, none)
+run_refused i s o d outcome (BadImage rule place) none (inl refused) = (refused.0, refused.1, none)
+run_refused i s o d outcome (BadImage rule place) none (inr refused) = absurd refused.2
+run_refused i s o d outcome (BadScript line rule) none (inl refused) = absurd refused.0
+run_refused i s o d outcome (BadScript line rule) none (inr refused) = ((refused.0, refused.1, refused.2), none)
+run_refused i s o d outcome OutOfMemory none refused = inl none
+run_refused i s o d outcome Done none (inl refused) = absurd refused.0
+run_refused i s o d outcome Done none (inr refused) = absurd refused.2
+run_refused i s o d outcome Usage none (inl refused) = absurd refused.0
+run_refused i s o d outcome Usage none (inr refused) = absurd refused.2
+run_refused i s o d outcome (WriteFault to) none (inl refused) = absurd refused.0
+run_refused i s o d outcome (WriteFault to) none (inr refused) = absurd refused.2
+
+-- ---- from an image that was refused, or from the writing of a line, to the end of a check
+
+-- an image that was refused
+pub check_refused : (i : Reading) (o : Writing) (status : Status) → WroteNothing o → ImageRefusal i status → CheckEnd i o status
+check_refused i o (ReadFault Image) none refused = (refused, none)
+check_refused i o (ReadFault Script_) none refused = absurd refused
+check_refused i o (BadImage rule place) none refused = (refused, none)
+check_refused i o OutOfMemory none refused = inl none
+check_refused i o Done none refused = absurd refused
+check_refused i o Usage none refused = absurd refused
+check_refused i o (BadScript line rule) none refused = absurd refused
+check_refused i o (WriteFault to) none refused = absurd refused
 
 pub line_written : (i : Reading) (o : Writing) (v : Volume) (status : Status) → IsImageRead i v → LineWritten o (check_line v) status → CheckEnd i o status
 line_written i o v Done read written = (v, read, written)

@@ -1,15 +1,14 @@
 -- What was read of an image and of a script.
 use Rattle.std.specs.Prelude.{min}
 use Rattle.std.specs.Fmt.{decimal}
-use Rattle.std.proofs.Common.{◌≡◌, [], ℕ, ◌+◌, ◌<◌, ◌≤◌, List, Option, None, Some, get_or, length, length-append, refl, ap, subst, arith}
+use Rattle.std.proofs.Common.{◌≡◌, [], ℕ, ◌+◌, ◌<◌, ◌≤◌, List, Option, None, Some, drop, get_or, length, length-append, refl, ap, subst, arith}
 use Rattle.std.proofs.lemmas.Fmt.{length-decimal-le}
 use Rattle.std.proofs.lemmas.Option.{get_or_from_slice_get}
 use Rattle.bd_base.specs.declared.volume.Volume.{Volume}
 use Rattle.bd_base.specs.Inodes.{IsValidFile}
 use Rattle.bd_base.specs.Names.{IsName}
-use Rattle.bd_base.specs.Volumes.{IsVolume}
+use Rattle.bd_base.specs.Volumes.{IsSoundVolume, IsVolume}
 use Rattle.bd_outside.specs.Source.{PassesLimit, ReadsAll}
-use Rattle.bd_image.specs.Limits.{IsWithinLimits}
 use Rattle.bd_image.specs.Rules.{Broken, Obeys, Rule, Length, Magic, Version, BlockCount, InodeCount, HeaderRest, UsedMark, FreeRecord, Perms, ExtentCount, NameForm, NameFresh, RecordRest, ExtentRange, ExtentJoins, ExtentShares, Size, TailZero, Bitmap, rule_number}
 use Rattle.bd_machine.specs.Refusals.{IsNotSimple}
 use Rattle.bd_machine.specs.Simple.{Grants, simple_text}
@@ -25,6 +24,11 @@ told (Some old) new bytes P reads p = subst P reads.0 p
 pub told_end : (left new : Option (List ℕ)) (bytes : List ℕ) (P : List ℕ → Type 0) → ReadsAll left new bytes → P bytes → ForTold left (λ b. P b × (new ≡ Some []))
 told_end None new bytes P reads p = tt
 told_end (Some old) new bytes P reads p = (subst P reads.0 p, reads.1)
+
+-- a source that is longer than the limit
+pub within_long : (left new : Option (List ℕ)) (limit : ℕ) → PassesLimit limit left new → ForTold left (λ b. new ≡ Some (drop (limit + 1) b))
+within_long None new limit passes = tt
+within_long (Some old) new limit passes = passes.1
 
 -- a fact about all bytes past the limit is one about those that were left
 pub told_long : (left new : Option (List ℕ)) (limit : ℕ) (P : List ℕ → Type 0) → PassesLimit limit left new → ((b : List ℕ) → limit < length b → P b) → ForTold left P
@@ -68,15 +72,15 @@ too_long b long =
       least = λ p lt breaks. let at : p ≡ min (length b) (67108864 + 1) = breaks.1 in absurd (omega arith);
     }
 
--- a volume within the limits of images is one that a machine takes
-pub volume_for_machine : (v : Volume) → IsWithinLimits v → IsVolume v
-volume_for_machine v within =
+-- a sound volume is one that a machine takes
+pub volume_for_machine : (v : Volume) → IsSoundVolume v → IsVolume v
+volume_for_machine v sound =
     record {
-      total = within.files.valid.few_blocks;
-      bytes = within.bytes;
-      inodes = within.files.valid.few_files;
+      total = sound.files.valid.few_blocks;
+      bytes = sound.all_bytes;
+      inodes = sound.files.valid.few_files;
       files = λ id f at.
-          let file : IsValidFile v.total (length v.inodes) f = within.files.valid.each id f (get_or_from_slice_get v.inodes id (Some f) None at) in
+          let file : IsValidFile v.total (length v.inodes) f = sound.files.valid.each id f (get_or_from_slice_get v.inodes id (Some f) None at) in
           record { size = file.size_in_range; blocks = file.enough_blocks; below_end = λ k d lt. (within_area v.total (length v.inodes) (get_or f.blocks k d) (file.in_data_area k d lt)).1 };
     }
 

@@ -13,8 +13,8 @@ use Rattle.bd_top.specs.declared.status.To.TheVariants.{Out, Disk}
 use Rattle.bd_top.specs.declared.status.Which.TheVariants.{Image, Script as Script_}
 use Rattle.bd_top.specs.declared.words.Command.{Command}
 use Rattle.bd_top.specs.declared.words.Command.TheVariants.{Check, Replay}
-use Rattle.bd_top.specs.Outside.{ForTold, ReadFailed, ReadNothing, Reading, WriteFailed, Writing, Wrote, WroteNothing, WrotePrefix}
-use Rattle.bd_top.specs.Runs.{IsImageRead, IsReplay}
+use Rattle.bd_top.specs.Outside.{ReadFailed, ReadNothing, Reading, WriteFailed, Writing, Wrote, WroteNothing, WrotePrefix}
+use Rattle.bd_top.specs.Runs.{IsBadImage, IsBadScript, IsImageRead, IsReplay}
 use Rattle.bd_top.specs.Totals.{check_line}
 
 -- ---- replay
@@ -35,11 +35,11 @@ Replayed image script outcome Fact =
 abbrev pub ReplayEnd : Reading → Reading → Writing → Writing → Outcome → Status → Type 0
 ReplayEnd image script out disk outcome Done = Replayed image script outcome (λ report final. Wrote out report × Wrote disk final)
 ReplayEnd image script out disk outcome Usage = ⊥
-ReplayEnd image script out disk outcome (ReadFault Image) = ReadFailed image × NothingDone out disk outcome
-ReplayEnd image script out disk outcome (ReadFault Script_) = ReadFailed script × NothingDone out disk outcome × ((v : Volume) × IsImageRead image v)
-ReplayEnd image script out disk outcome (BadImage rule place) = ForTold image.left (λ b. Broken b rule place) × NothingDone out disk outcome
+ReplayEnd image script out disk outcome (ReadFault Image) = ReadFailed image × ReadNothing script × NothingDone out disk outcome
+ReplayEnd image script out disk outcome (ReadFault Script_) = ((v : Volume) × IsImageRead image v) × ReadFailed script × NothingDone out disk outcome
+ReplayEnd image script out disk outcome (BadImage rule place) = IsBadImage image rule place × ReadNothing script × NothingDone out disk outcome
 ReplayEnd image script out disk outcome (BadScript line rule) =
-    (line ≡ 0) × (rule ≡ 0) × NothingDone out disk outcome × ((v : Volume) × IsImageRead image v × ForTold script.left (IsNotSimple v))
+    ((v : Volume) × IsImageRead image v × IsBadScript v script line rule) × NothingDone out disk outcome
 ReplayEnd image script out disk outcome (WriteFault Out) =
     Replayed image script outcome (λ report final. WriteFailed out × WrotePrefix out report × WroteNothing disk)
 ReplayEnd image script out disk outcome (WriteFault Disk) =
@@ -62,7 +62,7 @@ Checked image Fact = (v : Volume) × IsImageRead image v × Fact (check_line v)
 abbrev pub CheckEnd : Reading → Writing → Status → Type 0
 CheckEnd image out Done = Checked image (Wrote out)
 CheckEnd image out (ReadFault Image) = ReadFailed image × WroteNothing out
-CheckEnd image out (BadImage rule place) = ForTold image.left (λ b. Broken b rule place) × WroteNothing out
+CheckEnd image out (BadImage rule place) = IsBadImage image rule place × WroteNothing out
 CheckEnd image out (WriteFault Out) = Checked image (λ line. WriteFailed out × WrotePrefix out line)
 CheckEnd image out OutOfMemory = WroteNothing out ⊎ Checked image (WrotePrefix out)
 CheckEnd image out status = ⊥

@@ -1,8 +1,9 @@
 -- Sources and sinks around a call: what was there before it, and whether a read or a write of it failed.
-use Rattle.std.specs.Prelude.{◌≡◌, ℕ, List, Option, None, Some}
+use Rattle.std.specs.Prelude.{◌≡◌, ℕ, ◌+◌, List, drop, Option, None, Some}
 use Rattle.std.specs.Io.KnownBytes.{Appends}
 use Rattle.bd_outside.specs.Faults.{Rose}
 use Rattle.bd_outside.specs.Sink.{AppendsPrefix}
+use Rattle.bd_outside.specs.Source.{TakesAtMost}
 
 -- a source around a call: the bytes that it had left before and has left after, where it tells them, and its count of faults before and after
 pub record Reading : Type 0 where
@@ -36,6 +37,14 @@ ForTold (Some bytes) P = P bytes
 -- nothing was read
 abbrev pub ReadNothing : Reading → Type 0
 ReadNothing source = (source.remains ≡ source.left) × (source.after ≡ source.before)
+
+-- at most so many bytes were read
+abbrev pub ReadAtMost : ℕ → Reading → Type 0
+ReadAtMost most source = TakesAtMost most source.left source.remains
+
+-- all was read, or, where more than the limit was left, one byte more than the limit
+abbrev pub ReadWithin : ℕ → Reading → Type 0
+ReadWithin limit source = ForTold source.left (λ bytes. source.remains ≡ Some (drop (limit + 1) bytes))
 
 -- a read failed in the call
 abbrev pub ReadFailed : Reading → Type 0

@@ -1,17 +1,19 @@
 -- What a command has read, and what a whole run has done.
 use Rattle.std.specs.Prelude.{◌≡◌, ℕ, List, [], Some}
+use Rattle.bd_base.specs.declared.limits.TheConstants.{IMAGE_SIZE, SCRIPT_SIZE}
 use Rattle.bd_base.specs.declared.script.Script.{Script}
 use Rattle.bd_base.specs.declared.volume.Volume.{Volume}
-use Rattle.bd_image.specs.Rules.{Accepted}
+use Rattle.bd_image.specs.Rules.{Accepted, Broken}
 use Rattle.bd_image.specs.Volumes.{AcceptedVolume, image_of, volume_of}
 use Rattle.bd_machine.specs.declared.entry.Entry.{Entry}
 use Rattle.bd_machine.specs.declared.turn.Event.{Event}
 use Rattle.bd_machine.specs.Course.{IsCourse, visible}
 use Rattle.bd_machine.specs.History.{InOrder, Legal}
-use Rattle.bd_machine.specs.Machine.{State, boot_state, volume_in}
+use Rattle.bd_machine.specs.Machine.{State, boot_state}
+use Rattle.bd_machine.specs.Refusals.{IsNotSimple}
 use Rattle.bd_machine.specs.Simple.{IsSimple, IsSimpleText}
-use Rattle.bd_machine.specs.Store.{Store, start_store}
-use Rattle.bd_top.specs.Outside.{ForTold, Reading}
+use Rattle.bd_machine.specs.Store.{Store, start_store, volume_in}
+use Rattle.bd_top.specs.Outside.{ForTold, ReadWithin, Reading}
 use Rattle.bd_top.specs.Report.{report_text}
 
 -- the volume is the one that the image says which was left, and that was read to its end
@@ -21,6 +23,18 @@ IsImageRead image v = AcceptedVolume v × ForTold image.left (λ b. Accepted b �
 -- the script is the one whose text was left, and that was read to its end; it is simple for the volume
 abbrev pub IsScriptRead : Volume → Reading → Script → Type 0
 IsScriptRead v text script = IsSimple v script × ForTold text.left (λ t. IsSimpleText v t script × (text.remains ≡ Some []))
+
+-- the image that was left, read as far as an image may go, breaks this rule at this place
+pub record IsBadImage (image : Reading) (rule place : ℕ) : Type 0 where
+  pub broken : ForTold image.left (λ b. Broken b rule place)
+  pub within : ReadWithin IMAGE_SIZE image
+
+-- the text that was left, read as far as a script may go, is not simple for the volume; it is refused without a line and a rule
+pub record IsBadScript (v : Volume) (text : Reading) (line rule : ℕ) : Type 0 where
+  pub no_line : line ≡ 0
+  pub no_rule : rule ≡ 0
+  pub not_simple : ForTold text.left (IsNotSimple v)
+  pub within : ReadWithin SCRIPT_SIZE text
 
 -- a whole run of the script over the volume: the journal is one legal history from the volume's store to the store whose image is written
 pub record IsRun (v : Volume) (script : Script) (journal : List Entry) (trace : List Event) (report image : List ℕ) : Type 0 where

@@ -1,9 +1,10 @@
 //! The command `check`.
-ghost use Rattle.std.specs.Prelude.{◌≡◌, ◌++◌, is_some, length, sum_by, count_by, IfOk};
+ghost use Rattle.std.specs.Prelude.{◌≡◌, ◌+◌, ◌++◌, is_some, length, sum_by, count_by, IfOk};
+ghost use Rattle.bd_base.specs.declared.limits.TheConstants.{IMAGE_SIZE};
 ghost use Rattle.bd_base.specs.Inodes.{AreFiles, blocks_at};
 ghost use Rattle.bd_image.specs.Volumes.{AcceptedVolume};
-ghost use Rattle.bd_top.specs.Causes.{CheckEnd};
-ghost use Rattle.bd_top.specs.Outside.{reading, writing};
+ghost use Rattle.bd_top.specs.Causes.{CanCheck, CheckEnd, IsDone, RefusesImage};
+ghost use Rattle.bd_top.specs.Outside.{ReadAtMost, reading, writing};
 ghost use Rattle.bd_top.specs.Steps.{LineWritten};
 ghost use Rattle.bd_top.specs.Totals.{check_line, free_count};
 
@@ -11,7 +12,7 @@ use crate::inputs::read_image;
 use crate::status::{Status, To};
 use crate::text::{push, push_number};
 use bd_base::{Bytes, Inode, List, OutOfMemory, Volume};
-use bd_image::volume_within_limits;
+use bd_image::{one_refusal, refused_is_not_accepted, sound_volumes};
 use bd_outside::{Sink, Source, WriteError, write_all};
 use std::alloc::Global;
 
@@ -49,7 +50,7 @@ fn free_blocks(volume: &Volume) -> u64
     requires { AcceptedVolume volume.now }
     ensures { result ≡ free_count volume.now }
 {
-    volume_within_limits();
+    sound_volumes();
     let inodes = volume.inodes.as_slice();
     let metadata = 2 + inodes.len() as u64 / 16;
     u64::from(volume.total) - metadata - owned_blocks(volume.total, inodes)
@@ -87,8 +88,13 @@ fn write_line<O: Sink>(out: &mut O, line: &[u8]) -> Status
 /// An image that breaks a rule is `BadImage`, and nothing is written. `CheckEnd` (specs/Causes.antt) tells what each
 /// status means.
 pub fn check_all<I: Source, O: Sink>(alloc: Global, image: &mut I, out: &mut O) -> Status
-    ensures { CheckEnd (reading I.left I.faults I.last_fault image.old image.new) (writing O.held O.faults O.last_fault out.old out.new) result }
+    ensures answer { CheckEnd (reading I.left I.faults I.last_fault image.old image.new) (writing O.held O.faults O.last_fault out.old out.new) result }
+    ensures bad_image { RefusesImage (reading I.left I.faults I.last_fault image.old image.new) result }
+    ensures complete { CanCheck (reading I.left I.faults I.last_fault image.old image.new) (writing O.held O.faults O.last_fault out.old out.new) → IsDone result }
+    ensures image_taken { ReadAtMost (IMAGE_SIZE + 1) (reading I.left I.faults I.last_fault image.old image.new) }
 {
+    refused_is_not_accepted();
+    one_refusal();
     let volume = match read_image(alloc, image) {
         Ok(volume) => volume,
         Err(status) => return status,

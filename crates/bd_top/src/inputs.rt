@@ -1,25 +1,21 @@
 //! Reading an image and a script from their sources.
-ghost use Rattle.std.specs.Prelude.{◌≡◌, ℕ, IfOk, IfErr, OnOk};
+ghost use Rattle.std.specs.Prelude.{◌≡◌, ℕ, ◌+◌, IfOk, IfErr, IsErrOf, OnOk};
+ghost use Rattle.bd_base.specs.declared.limits.TheConstants.{IMAGE_SIZE, SCRIPT_SIZE};
 ghost use Rattle.bd_base.specs.Bytes.{AreBytes};
 ghost use Rattle.bd_image.specs.Refusals.{IsRefusal};
 ghost use Rattle.bd_image.specs.Rules.{Accepted};
 ghost use Rattle.bd_image.specs.Volumes.{AcceptedVolume, volume_of};
-ghost use Rattle.bd_top.specs.Outside.{reading};
+ghost use Rattle.bd_outside.specs.Source.{PassesLimit, ReadsAll};
+ghost use Rattle.bd_top.specs.Outside.{ReadAtMost, ReadFailed, ReadWithin, reading};
 ghost use Rattle.bd_top.specs.Runs.{IsImageRead, IsScriptRead};
 ghost use Rattle.bd_top.specs.Steps.{ImageRefusal, ScriptRefusal};
 
 use crate::status::{Status, Which};
-use bd_base::{Bytes, Script, Volume};
-use bd_image::{ImageError, parse, volume_within_limits};
+use bd_base::{Bytes, IMAGE_SIZE, SCRIPT_SIZE, Script, Volume};
+use bd_image::{ImageError, parse, sound_volumes};
 use bd_machine::{ScriptError, read_simple};
 use bd_outside::{ReadError, Source, read_all};
 use std::alloc::Global;
-
-/// The longest image, in bytes.
-const MOST_IMAGE: usize = 67_108_864;
-
-/// The longest script, in bytes.
-const MOST_SCRIPT: usize = 8_388_608;
 
 /// Bytes of a program are below 256.
 fn are_bytes(bytes: &[u8])
@@ -40,18 +36,30 @@ fn volume_of_bytes(alloc: Global, bytes: Bytes) -> Result<Volume, ImageError>
     parse(alloc, bytes)
 }
 
+/// Reads a source to its end, where that is within the limit.
+fn read_within<S: Source>(alloc: Global, source: &mut S, limit: u64) -> Result<Bytes, ReadError>
+    ensures ok { IfOk result (ReadsAll (S.left source.old) (S.left source.new)) }
+    ensures within { OnOk result (ReadWithin limit (reading S.left S.faults S.last_fault source.old source.new)) }
+    ensures too_long { IsErrOf result ReadError.TooLong → PassesLimit limit (S.left source.old) (S.left source.new) }
+    ensures fault { IsErrOf result ReadError.Fault → ReadFailed (reading S.left S.faults S.last_fault source.old source.new) }
+    ensures taken { ReadAtMost (limit + 1) (reading S.left S.faults S.last_fault source.old source.new) }
+{
+    read_all(alloc, source, limit as usize)
+}
+
 /// Reads the image from its source.
 pub(crate) fn read_image<I: Source>(alloc: Global, image: &mut I) -> Result<Volume, Status>
     ensures ok { IfOk result (IsImageRead (reading I.left I.faults I.last_fault image.old image.new)) }
     ensures err { IfErr result (ImageRefusal (reading I.left I.faults I.last_fault image.old image.new)) }
+    ensures taken { ReadAtMost (IMAGE_SIZE + 1) (reading I.left I.faults I.last_fault image.old image.new) }
 {
-    let bytes = match read_all(alloc, image, MOST_IMAGE) {
+    let bytes = match read_within(alloc, image, IMAGE_SIZE) {
         Ok(bytes) => bytes,
         Err(ReadError::Fault) => return Err(Status::ReadFault(Which::Image)),
         Err(ReadError::TooLong) => {
             return Err(Status::BadImage {
                 rule: 1,
-                place: 67_108_865,
+                place: IMAGE_SIZE + 1,
             });
         }
         Err(ReadError::OutOfMemory) => return Err(Status::OutOfMemory),
@@ -72,14 +80,15 @@ pub(crate) fn read_script<S: Source>(
     requires { AcceptedVolume volume.now }
     ensures ok { IfOk result (IsScriptRead volume.now (reading S.left S.faults S.last_fault script.old script.new)) }
     ensures err { IfErr result (ScriptRefusal volume.now (reading S.left S.faults S.last_fault script.old script.new)) }
+    ensures taken { ReadAtMost (SCRIPT_SIZE + 1) (reading S.left S.faults S.last_fault script.old script.new) }
 {
-    let text = match read_all(alloc, script, MOST_SCRIPT) {
+    let text = match read_within(alloc, script, SCRIPT_SIZE) {
         Ok(text) => text,
         Err(ReadError::Fault) => return Err(Status::ReadFault(Which::Script)),
         Err(ReadError::TooLong) => return Err(Status::BadScript { line: 0, rule: 0 }),
         Err(ReadError::OutOfMemory) => return Err(Status::OutOfMemory),
     };
-    volume_within_limits();
+    sound_volumes();
     match read_simple(alloc, text.as_slice(), volume) {
         Ok(script) => Ok(script),
         Err(ScriptError::BadScript { line, rule }) => Err(Status::BadScript { line, rule }),

@@ -1,15 +1,15 @@
 //! The program on sources and sinks: the words of the command line, and the command that they say.
-ghost use Rattle.std.specs.Prelude.{◌≡◌, ◌↔◌, None, map};
+ghost use Rattle.std.specs.Prelude.{◌≡◌, ◌↔◌, ◌+◌, None, map};
 ghost use Rattle.std.specs.String.{string_bytes};
+ghost use Rattle.bd_base.specs.declared.limits.TheConstants.{IMAGE_SIZE, SCRIPT_SIZE};
 ghost use Rattle.bd_top.specs.Causes.{Answer, Completes, RefusesImages, RefusesScripts};
-ghost use Rattle.bd_top.specs.Outside.{reading, writing};
+ghost use Rattle.bd_top.specs.Outside.{ReadAtMost, reading, writing};
 ghost use Rattle.bd_top.specs.Words.{command_of};
 
 use crate::check::check_all;
 use crate::replay::replay_all;
 use crate::status::{Outcome, Status, without_run};
 use crate::words::{Command, read_words};
-use bd_image::{one_refusal, refused_is_not_accepted};
 use bd_outside::{Sink, Source};
 use std::alloc::Global;
 
@@ -30,9 +30,9 @@ pub fn top<I: Source, S: Source, O: Sink, D: Sink>(
     ensures bad_image { RefusesImages (command_of (map string_bytes words.now)) (reading I.left I.faults I.last_fault image.old image.new) result.status }
     ensures bad_script { RefusesScripts (command_of (map string_bytes words.now)) (reading I.left I.faults I.last_fault image.old image.new) (reading S.left S.faults S.last_fault script.old script.new) result.status }
     ensures complete { Completes (command_of (map string_bytes words.now)) (reading I.left I.faults I.last_fault image.old image.new) (reading S.left S.faults S.last_fault script.old script.new) (writing O.held O.faults O.last_fault out.old out.new) (writing D.held D.faults D.last_fault disk.old disk.new) result.status }
+    ensures image_taken { ReadAtMost (IMAGE_SIZE + 1) (reading I.left I.faults I.last_fault image.old image.new) }
+    ensures script_taken { ReadAtMost (SCRIPT_SIZE + 1) (reading S.left S.faults S.last_fault script.old script.new) }
 {
-    refused_is_not_accepted();
-    one_refusal();
     match read_words(words) {
         Some(Command::Replay) => replay_all(alloc, image, script, out, disk),
         Some(Command::Check) => {

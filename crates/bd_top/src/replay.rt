@@ -1,9 +1,10 @@
 //! The command `replay`.
-ghost use Rattle.std.specs.Prelude.{◌≡◌, IfOk, IfErr};
+ghost use Rattle.std.specs.Prelude.{◌≡◌, ◌+◌, IfOk, IfErr};
+ghost use Rattle.bd_base.specs.declared.limits.TheConstants.{IMAGE_SIZE, SCRIPT_SIZE};
 ghost use Rattle.bd_image.specs.Volumes.{AcceptedVolume};
 ghost use Rattle.bd_machine.specs.Simple.{IsSimple};
-ghost use Rattle.bd_top.specs.Causes.{ReplayAnswer};
-ghost use Rattle.bd_top.specs.Outside.{reading, writing};
+ghost use Rattle.bd_top.specs.Causes.{CanReplay, IsDone, RefusesImage, RefusesScript, ReplayAnswer};
+ghost use Rattle.bd_top.specs.Outside.{ReadAtMost, reading, writing};
 ghost use Rattle.bd_top.specs.Runs.{IsReplay, IsRun};
 ghost use Rattle.bd_top.specs.Steps.{ReplayRefusal, RunWritten};
 
@@ -11,7 +12,8 @@ use crate::inputs::{read_image, read_script};
 use crate::report::report;
 use crate::status::{Outcome, Status, To, without_run};
 use bd_base::{Bytes, OutOfMemory, Script, Volume};
-use bd_image::{render, volume_within_limits};
+use bd_image::{one_refusal, refused_is_not_accepted, render, sound_volumes};
+use bd_machine::laws::histories_keep_valid;
 use bd_machine::{EntryList, EventList, replay};
 use bd_outside::{Sink, Source, WriteError, write_all};
 use std::alloc::Global;
@@ -31,7 +33,8 @@ fn run_script(alloc: Global, volume: Volume, script: Script) -> Result<WholeRun,
     requires script { IsSimple volume script }
     ensures { IfOk result (λ run. IsRun volume script run.journal run.trace run.report run.image) }
 {
-    volume_within_limits();
+    sound_volumes();
+    histories_keep_valid();
     let machine = replay(alloc, volume, script)?;
     let report = report(alloc, machine.journal())?;
     let image = render(alloc, &machine.volume()?)?;
@@ -68,6 +71,8 @@ fn read_and_run<I: Source, S: Source>(
 ) -> Result<WholeRun, Status>
     ensures ok { IfOk result (λ run. IsReplay (reading I.left I.faults I.last_fault image.old image.new) (reading S.left S.faults S.last_fault script.old script.new) run.journal run.trace run.report run.image) }
     ensures err { IfErr result (ReplayRefusal (reading I.left I.faults I.last_fault image.old image.new) (reading S.left S.faults S.last_fault script.old script.new)) }
+    ensures image_taken { ReadAtMost (IMAGE_SIZE + 1) (reading I.left I.faults I.last_fault image.old image.new) }
+    ensures script_taken { ReadAtMost (SCRIPT_SIZE + 1) (reading S.left S.faults S.last_fault script.old script.new) }
 {
     let volume = read_image(alloc, image)?;
     let script = read_script(alloc, script, &volume)?;
@@ -89,7 +94,14 @@ pub fn replay_all<I: Source, S: Source, O: Sink, D: Sink>(
     disk: &mut D,
 ) -> Outcome
     ensures answer { ReplayAnswer (reading I.left I.faults I.last_fault image.old image.new) (reading S.left S.faults S.last_fault script.old script.new) (writing O.held O.faults O.last_fault out.old out.new) (writing D.held D.faults D.last_fault disk.old disk.new) result }
+    ensures bad_image { RefusesImage (reading I.left I.faults I.last_fault image.old image.new) result.status }
+    ensures bad_script { RefusesScript (reading I.left I.faults I.last_fault image.old image.new) (reading S.left S.faults S.last_fault script.old script.new) result.status }
+    ensures complete { CanReplay (reading I.left I.faults I.last_fault image.old image.new) (reading S.left S.faults S.last_fault script.old script.new) (writing O.held O.faults O.last_fault out.old out.new) (writing D.held D.faults D.last_fault disk.old disk.new) → IsDone result.status }
+    ensures image_taken { ReadAtMost (IMAGE_SIZE + 1) (reading I.left I.faults I.last_fault image.old image.new) }
+    ensures script_taken { ReadAtMost (SCRIPT_SIZE + 1) (reading S.left S.faults S.last_fault script.old script.new) }
 {
+    refused_is_not_accepted();
+    one_refusal();
     match read_and_run(alloc, image, script) {
         Ok(run) => {
             let status = write_run(out, disk, run.report.as_slice(), run.image.as_slice());

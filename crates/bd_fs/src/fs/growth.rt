@@ -13,8 +13,8 @@ use super::Fs;
 use crate::errors::{GrowError, Refusal};
 use bd_base::{BLOCK_SIZE, BlockNo, FILE_SIZE, FileId, Inode, OutOfMemory, Reason};
 
-/// How many extents a file may have.
-const EXTENTS: u8 = 24;
+/// How many extents a file may have, as each file's count of them is kept.
+const EXTENTS: u8 = bd_base::EXTENTS as u8;
 
 impl Fs {
     /// Lets a file grow to `to` bytes, by at most one block, and answers the block that it took: one

@@ -3,10 +3,10 @@ ghost use Rattle.std.specs.Prelude.{◌≡◌, ℕ, ◌<◌, ◌≤◌, ◌||◌
 ghost use Rattle.std.specs.FinSet as set;
 ghost use Rattle.std.specs.Str.{bytes_eq};
 ghost use Rattle.indexmap.specs.IndexMap.{get_by};
-ghost use Rattle.bd_base.specs.declared.limits.TheConstants.{BLOCKS, FILES};
+ghost use Rattle.bd_base.specs.declared.limits.TheConstants.{BLOCKS, EXTENTS, FILES};
 ghost use Rattle.bd_base.specs.Allocation.{times_listed};
 ghost use Rattle.bd_base.specs.Extents.{extents_of};
-ghost use Rattle.bd_base.specs.Inodes.{AreValidFiles, NamesDiffer, block_lists, blocks_at, id_of, inode_at, is_free, most_extents};
+ghost use Rattle.bd_base.specs.Inodes.{AreValidFiles, NamesDiffer, block_lists, blocks_at, id_of, inode_at, is_free};
 
 use super::Fs;
 use super::growth::begins_extent;
@@ -60,7 +60,7 @@ fn names_of(
 
 /// How many extents each file has.
 fn runs_of(alloc: Global, files: &[Option<Inode>]) -> Result<Vec<u8>, OutOfMemory>
-    requires { All (λ file. length (extents_of (blocks_at file)) ≤ most_extents) files.now }
+    requires { All (λ file. length (extents_of (blocks_at file)) ≤ EXTENTS) files.now }
     ensures counted { IfOk result (λ runs. (id : ℕ) → slice_index runs.items id ≡ length (extents_of (blocks_at (inode_at files.now id)))) }
     ensures all { IfOk result (λ runs. length runs.items ≡ length files.now) }
 {

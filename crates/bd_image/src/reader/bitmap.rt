@@ -1,7 +1,6 @@
 //! The rule that the bitmap marks the blocks of the metadata and of files, and no others.
 ghost use Rattle.std.specs.Prelude.{◌≡◌, ℕ, ◌+◌, ◌*◌, ◌<◌, ◌≤◌, ◌↔◌, ◌⊎◌, length, IfOk, IsTrue, MatchOption, OnOk};
-ghost use Rattle.bd_base.specs.declared.limits.TheConstants.{BLOCK_SIZE};
-ghost use Rattle.bd_image.specs.declared.layout.TheConstants.{MOST_EXTENTS};
+ghost use Rattle.bd_base.specs.declared.limits.TheConstants.{BLOCK_SIZE, EXTENTS};
 ghost use Rattle.std.specs.List.{Contains};
 ghost use Rattle.bd_image.specs.Layout.{blocks_at, extent_count, inode_count, is_marked};
 ghost use Rattle.bd_image.specs.Rules.{Bitmap, BlockCount, ExtentCount, ExtentRange, HasRecords, IsLeastBreak, Obeys};
@@ -22,7 +21,7 @@ const BITS: u64 = 8 * BLOCK_SIZE;
 fn take_file(bytes: &[u8], j: u64, taken: &mut [bool])
     requires image { HasRecords bytes.now }
     requires record { j < inode_count bytes.now }
-    requires few { extent_count bytes.now j ≤ MOST_EXTENTS }
+    requires few { extent_count bytes.now j ≤ EXTENTS }
     requires inside { (e : ℕ) → e < extent_count bytes.now j → IsInside bytes.now j e }
     requires total { Obeys bytes.now BlockCount }
     requires long { length taken.old ≡ 8 * BLOCK_SIZE }

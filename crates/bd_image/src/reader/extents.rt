@@ -1,6 +1,6 @@
 //! The rules of each file's extents, and of its size in blocks.
 ghost use Rattle.std.specs.Prelude.{◌≡◌, ◌≢◌, ℕ, ◌+◌, ◌*◌, ◌<◌, ◌≤◌, length, MatchOption, IsTrue, ◌↔◌};
-ghost use Rattle.bd_image.specs.declared.layout.TheConstants.{MOST_EXTENTS};
+ghost use Rattle.bd_base.specs.declared.limits.TheConstants.{EXTENTS};
 ghost use Rattle.bd_base.specs.Files.{data_start};
 ghost use Rattle.bd_image.specs.Checks.{HasNoJoin, IsFirstFault, IsFirstJoin, IsInside};
 ghost use Rattle.bd_image.specs.Layout.{block_count, blocks_at, extent_at, extent_count, inode_count, used_mark};
@@ -34,7 +34,7 @@ fn is_in_data_area(bytes: &[u8], extent: Extent) -> bool
 fn first_outside(bytes: &[u8], j: u64) -> Option<u64>
     requires image { HasRecords bytes.now }
     requires record { j < inode_count bytes.now }
-    requires few { extent_count bytes.now j ≤ MOST_EXTENTS }
+    requires few { extent_count bytes.now j ≤ EXTENTS }
     ensures { MatchOption result ((e : ℕ) → e < extent_count bytes.now j → IsInside bytes.now j e)
         (IsFirstFault (IsInside bytes.now j) (extent_count bytes.now j)) }
 {
@@ -66,7 +66,7 @@ pub(crate) fn check_extent_ranges(bytes: &[u8]) -> Option<u64>
 fn first_joined(bytes: &[u8], j: u64) -> Option<u64>
     requires image { HasRecords bytes.now }
     requires record { j < inode_count bytes.now }
-    requires few { extent_count bytes.now j ≤ MOST_EXTENTS }
+    requires few { extent_count bytes.now j ≤ EXTENTS }
     ensures { MatchOption result (HasNoJoin bytes.now j (extent_count bytes.now j)) (IsFirstJoin bytes.now j) }
 {
     for e in 1..extent_count(bytes, j) {
@@ -99,7 +99,7 @@ pub(crate) fn check_extent_joins(bytes: &[u8]) -> Option<u64>
 pub(crate) fn block_total(bytes: &[u8], j: u64) -> u64
     requires image { HasRecords bytes.now }
     requires record { j < inode_count bytes.now }
-    requires few { extent_count bytes.now j ≤ MOST_EXTENTS }
+    requires few { extent_count bytes.now j ≤ EXTENTS }
     ensures { result ≡ length (blocks_at bytes.now j) }
 {
     let mut total = 0;

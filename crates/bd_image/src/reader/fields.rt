@@ -1,6 +1,6 @@
 //! The fields of an image, read from its bytes. All numbers are little-endian.
 ghost use Rattle.std.specs.Prelude.{◌≡◌, ℕ, ◌+◌, ◌*◌, ◌<◌, ◌≤◌, ◌↔◌, IsTrue, length};
-ghost use Rattle.bd_image.specs.declared.layout.TheConstants.{MOST_EXTENTS, MOST_INODES};
+ghost use Rattle.bd_base.specs.declared.limits.TheConstants.{EXTENTS, FILES};
 ghost use Rattle.bd_image.specs.Layout.{block_count, byte_at, extent_at, extent_count, extent_place, inode_count, name_field, number_at, owner_at, perms_at, record_place, size_at, used_mark, version};
 ghost use Rattle.bd_image.specs.Rules.{HasRecords};
 
@@ -69,7 +69,7 @@ pub(crate) fn inode_count(bytes: &[u8]) -> u64
 
 /// The place of record `j`.
 pub(crate) fn record_place(j: u64) -> u64
-    requires { j < MOST_INODES }
+    requires { j < FILES }
     ensures { result ≡ record_place j }
 {
     RECORDS_PLACE + RECORD_BYTES * j
@@ -142,8 +142,8 @@ pub(crate) fn name_field(bytes: &[u8], j: u64) -> &[u8]
 
 /// The place of extent `e` of record `j`.
 pub(crate) fn extent_place(j: u64, e: u64) -> u64
-    requires record { j < MOST_INODES }
-    requires extent { e < MOST_EXTENTS }
+    requires record { j < FILES }
+    requires extent { e < EXTENTS }
     ensures { result ≡ extent_place j e }
 {
     record_place(j) + EXTENTS_FIELD + EXTENT_BYTES * e
@@ -153,7 +153,7 @@ pub(crate) fn extent_place(j: u64, e: u64) -> u64
 pub(crate) fn extent_at(bytes: &[u8], j: u64, e: u64) -> Extent
     requires image { HasRecords bytes.now }
     requires record { j < inode_count bytes.now }
-    requires extent { e < MOST_EXTENTS }
+    requires extent { e < EXTENTS }
     ensures { result ≡ extent_at bytes.now j e }
 {
     let place = extent_place(j, e);

@@ -1,17 +1,17 @@
 //! The files that the records say.
-ghost use Rattle.std.specs.Prelude.{◌≡◌, ℕ, ◌+◌, ◌<◌, ◌≤◌, ◌++◌, length, map, nat_eq, not, IfOk, OnOk};
-ghost use Rattle.bd_base.specs.declared.limits.TheConstants.{BLOCKS};
-ghost use Rattle.bd_image.specs.declared.layout.TheConstants.{MOST_EXTENTS};
+ghost use Rattle.std.specs.Prelude.{◌≡◌, ℕ, ◌+◌, ◌<◌, ◌≤◌, map, nat_eq, not, IfOk};
+ghost use Rattle.bd_base.specs.declared.limits.TheConstants.{EXTENTS};
 ghost use Rattle.std.specs.List.{range_with_len, take_while};
 ghost use Rattle.bd_image.specs.Checks.{IsInside};
-ghost use Rattle.bd_image.specs.Layout.{blocks_at, extent_count, inode_count, name_at, used_mark};
+ghost use Rattle.bd_image.specs.Layout.{blocks_at, extent_count, extents_at, inode_count, name_at, used_mark};
 ghost use Rattle.bd_image.specs.Rules.{BlockCount, ExtentCount, ExtentRange, HasRecords, Obeys};
 ghost use Rattle.bd_image.specs.Volumes.{inode_at};
 
 use crate::reader::fields::{
     extent_at, extent_count, inode_count, is_used, name_field, owner_at, perms_at, size_at,
 };
-use bd_base::{BlockList, BlockNo, Extent, Inode, InodeList, List, Name, OutOfMemory};
+use bd_base::{BlockList, ExtentList, Inode, InodeList, List, Name, OutOfMemory};
+use bd_extents::blocks_of;
 use std::alloc::Global;
 
 /// The bytes before the first zero.
@@ -35,16 +35,18 @@ fn read_name(alloc: Global, bytes: &[u8], j: u64) -> Result<Name, OutOfMemory>
     copy_name(alloc, name_field(bytes, j))
 }
 
-/// Appends the blocks of the extent.
-fn push_blocks(blocks: &mut BlockList, extent: Extent) -> Result<(), OutOfMemory>
-    requires { extent.start + extent.length ≤ BLOCKS }
-    ensures { OnOk result (blocks.new ≡ blocks.old ++ range_with_len extent.start extent.length) }
+/// The extents of record `j`.
+fn read_extents(alloc: Global, bytes: &[u8], j: u64) -> Result<ExtentList, OutOfMemory>
+    requires image { HasRecords bytes.now }
+    requires record { j < inode_count bytes.now }
+    requires few { extent_count bytes.now j ≤ EXTENTS }
+    ensures { IfOk result (λ extents. extents ≡ extents_at bytes.now j) }
 {
-    let start = u64::from(extent.start);
-    for block in start..start + u64::from(extent.length) {
-        blocks.push(BlockNo::new(block).unwrap())?;
+    let mut extents = List::new(alloc);
+    for e in 0..extent_count(bytes, j) {
+        extents.push(extent_at(bytes, j, e))?;
     }
-    Ok(())
+    Ok(extents)
 }
 
 /// The blocks of record `j`.
@@ -52,15 +54,12 @@ fn read_blocks(alloc: Global, bytes: &[u8], j: u64) -> Result<BlockList, OutOfMe
     requires image { HasRecords bytes.now }
     requires total { Obeys bytes.now BlockCount }
     requires record { j < inode_count bytes.now }
-    requires few { extent_count bytes.now j ≤ MOST_EXTENTS }
+    requires few { extent_count bytes.now j ≤ EXTENTS }
     requires inside { (e : ℕ) → e < extent_count bytes.now j → IsInside bytes.now j e }
     ensures { IfOk result (λ blocks. blocks ≡ blocks_at bytes.now j) }
 {
-    let mut blocks = List::new(alloc);
-    for e in 0..extent_count(bytes, j) {
-        push_blocks(&mut blocks, extent_at(bytes, j, e))?;
-    }
-    Ok(blocks)
+    let extents = read_extents(alloc, bytes, j)?;
+    blocks_of(alloc, extents.as_slice())
 }
 
 /// The file of record `j`, if it is used.

@@ -5,21 +5,21 @@ ghost use Rattle.bd_image.specs.Rules.{BlockCount, HeaderRest, InodeCount, IsLea
 
 use crate::layout::{
     BITMAP_PLACE, HEADER_BYTES, INODES_PLACE, LEAST_INODES, LEAST_LENGTH, LENGTH_PLACE, MAGIC,
-    MOST_INODES, MOST_LENGTH, VERSION, VERSION_PLACE,
+    VERSION, VERSION_PLACE,
 };
 use crate::reader::fields::{block_count, inode_count, version};
 use crate::reader::zeros::first_nonzero;
-use bd_base::BLOCK_SIZE;
+use bd_base::{BLOCK_SIZE, FILES, IMAGE_SIZE};
 
 /// The length is that of whole blocks, and neither too small nor too large.
 pub(crate) fn check_length(bytes: &[u8]) -> Option<u64>
     ensures { MatchOption result (Obeys bytes.now Length) (λ place. IsLeastBreak bytes.now Length place) }
 {
     let length = bytes.len() as u64;
-    if length % BLOCK_SIZE == 0 && LEAST_LENGTH <= length && length <= MOST_LENGTH {
+    if length % BLOCK_SIZE == 0 && LEAST_LENGTH <= length && length <= IMAGE_SIZE {
         None
     } else {
-        Some(length.min(MOST_LENGTH + 1))
+        Some(length.min(IMAGE_SIZE + 1))
     }
 }
 
@@ -65,7 +65,7 @@ pub(crate) fn check_inode_count(bytes: &[u8]) -> Option<u64>
     ensures { MatchOption result (Obeys bytes.now InodeCount) (λ place. IsLeastBreak bytes.now InodeCount place) }
 {
     let count = inode_count(bytes);
-    if count % LEAST_INODES == 0 && LEAST_INODES <= count && count <= MOST_INODES {
+    if count % LEAST_INODES == 0 && LEAST_INODES <= count && count <= FILES {
         None
     } else {
         Some(INODES_PLACE)

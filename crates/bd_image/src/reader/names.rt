@@ -7,14 +7,7 @@ ghost use Rattle.bd_image.specs.Rules.{HasRecords, IsLeastBreak, IsNameField, Na
 
 use crate::layout::NAME_FIELD;
 use crate::reader::fields::{inode_count, is_used, name_field, record_place};
-use bd_base::NAME_SIZE;
-
-/// Whether a name may hold the byte.
-fn is_name_byte(byte: u8) -> bool
-    ensures { IsTrue result ↔ IsNameByte byte }
-{
-    matches!(byte, b'a'..=b'z' | b'0'..=b'9' | b'.' | b'_' | b'-')
-}
+use bd_base::{NAME_SIZE, is_name_byte};
 
 /// How many bytes of names the field begins with.
 fn name_length(field: &[u8]) -> usize

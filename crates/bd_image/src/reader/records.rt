@@ -3,12 +3,12 @@ ghost use Rattle.std.specs.Prelude.{◌≡◌, ℕ, ◌+◌, ◌*◌, ◌<◌, �
 ghost use Rattle.bd_image.specs.Layout.{byte_at, extent_count, inode_count, used_mark};
 ghost use Rattle.bd_image.specs.Rules.{ExtentCount, FreeRecord, HasRecords, IsLeastBreak, Obeys, Perms, RecordRest, UsedMark};
 
-use crate::layout::{EXTENT_BYTES, EXTENTS_FIELD, MOST_EXTENTS, RECORD_BYTES};
+use crate::layout::{EXTENT_BYTES, EXTENTS_FIELD, RECORD_BYTES};
 use crate::reader::fields::{
     extent_count, inode_count, is_used, perms_at, record_place, used_mark,
 };
 use crate::reader::zeros::first_nonzero;
-use bd_base::PERMS;
+use bd_base::{EXTENTS, PERMS};
 
 /// Each record is marked as used or as free.
 pub(crate) fn check_used_marks(bytes: &[u8]) -> Option<u64>
@@ -58,7 +58,7 @@ pub(crate) fn check_extent_counts(bytes: &[u8]) -> Option<u64>
     ensures { MatchOption result (Obeys bytes.now ExtentCount) (λ place. IsLeastBreak bytes.now ExtentCount place) }
 {
     for j in 0..inode_count(bytes) {
-        if is_used(bytes, j) && extent_count(bytes, j) > MOST_EXTENTS {
+        if is_used(bytes, j) && extent_count(bytes, j) > EXTENTS {
             return Some(record_place(j) + 2);
         }
     }

@@ -1,6 +1,6 @@
 //! The rule that no two extents have a block in common.
 ghost use Rattle.std.specs.Prelude.{◌≡◌, ◌≢◌, ℕ, ◌+◌, ◌<◌, ◌≤◌, ◌↔◌, ◌⊎◌, List, length, IfOk, IsTrue, MatchOption, OnOk};
-ghost use Rattle.bd_image.specs.declared.layout.TheConstants.{MOST_EXTENTS};
+ghost use Rattle.bd_base.specs.declared.limits.TheConstants.{EXTENTS};
 ghost use Rattle.bd_image.specs.Checks.{IsInside};
 ghost use Rattle.bd_image.specs.Layout.{IsUsed, extent_count, inode_count, used_mark};
 ghost use Rattle.bd_image.specs.Rules.{ExtentCount, ExtentRange, ExtentShares, HasRecords, IsLeastBreak, Obeys};
@@ -41,7 +41,7 @@ pub(crate) fn take_blocks(taken: &mut [bool], extent: Extent)
 fn first_shared(bytes: &[u8], j: u64, taken: &mut [bool]) -> Option<u64>
     requires image { HasRecords bytes.now }
     requires record { IsUsed bytes.now j }
-    requires few { extent_count bytes.now j ≤ MOST_EXTENTS }
+    requires few { extent_count bytes.now j ≤ EXTENTS }
     requires inside { (e : ℕ) → e < extent_count bytes.now j → IsInside bytes.now j e }
     requires marks { MarksBefore bytes.now taken.old j 0 }
     ensures { MatchOption result (SharesNoneAndMarks bytes.now taken.new j) (IsFirstShare bytes.now j) }

@@ -1,14 +1,13 @@
 //! The records of an image.
 ghost use Rattle.std.specs.Prelude.{◌≡◌, ◌≤◌, ◌-◌, ◌++◌, length, replicate, All, OnOk, IfSome};
 ghost use Rattle.std.specs.List.{flat_map};
-ghost use Rattle.bd_base.specs.Extents.{extents_of};
 ghost use Rattle.bd_image.specs.Volumes.{extent_bytes, file_bytes, record_bytes};
 ghost use Rattle.bd_image.specs.Limits.{FitsRecord};
 
-use crate::layout::{EXTENT_BYTES, MOST_EXTENTS, RECORD_BYTES};
-use crate::writer::extents::extents_of;
+use crate::layout::{EXTENT_BYTES, RECORD_BYTES};
 use crate::writer::numbers::{push_u16, push_u32, push_u64, push_zeros};
-use bd_base::{Extent, Inode, OutOfMemory};
+use bd_base::{EXTENTS, Extent, Inode, OutOfMemory};
+use bd_extents::extents_of;
 use std::alloc::Global;
 
 /// Appends extents.
@@ -43,10 +42,10 @@ fn push_file(alloc: Global, out: &mut Vec<u8>, file: &Inode) -> Result<(), OutOf
     push_u32(out, file.owner)?;
     push_u64(out, file.size)?;
     push_name(out, file.name.as_slice())?;
-    push_extents(out, &extents)?;
+    push_extents(out, extents.as_slice())?;
     push_zeros(
         out,
-        EXTENT_BYTES as usize * (MOST_EXTENTS as usize - extents.len()) + 16,
+        EXTENT_BYTES as usize * (EXTENTS as usize - extents.len()) + 16,
     )
 }
 

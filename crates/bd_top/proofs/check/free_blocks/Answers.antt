@@ -7,7 +7,7 @@ use Rattle.bd_top.proofs.Counting.{free_and_owned}
 use Rattle.bd_top.proofs.check.free_blocks.Goals as goal
 
 pub owned_blocks-requires : goal.owned_blocks-requires
-owned_blocks-requires c = subst (AreFiles c.args.volume.now.total) (sym c.as_slice-inodes.ensures) (c.volume_within_limits.ensures c.args.volume.now c.requires).files
+owned_blocks-requires c = subst (AreFiles c.args.volume.now.total) (sym c.as_slice-inodes.ensures) (c.sound_volumes.ensures.sound c.args.volume.now c.requires).files
 
 -- the blocks that are free, those of files and those of the metadata
 all_blocks : (c : goal.After-owned_blocks) →
@@ -15,7 +15,7 @@ all_blocks : (c : goal.After-owned_blocks) →
     + sum_by (λ slot. length (blocks_at slot)) c.as_slice-inodes.result.now + data_start (length c.as_slice-inodes.result.now) ≡ c.args.volume.now.total
 all_blocks c =
     free_and_owned c.args.volume.now.total c.as_slice-inodes.result.now
-    (subst (AreFiles c.args.volume.now.total) (sym c.as_slice-inodes.ensures) (c.volume_within_limits.ensures c.args.volume.now c.requires).files)
+    (subst (AreFiles c.args.volume.now.total) (sym c.as_slice-inodes.ensures) (c.sound_volumes.ensures.sound c.args.volume.now c.requires).files)
 
 pub overflow_sub-result-2 : goal.overflow_sub-result-2
 overflow_sub-result-2 c = omega (arith, all_blocks c, c.owned_blocks.ensures, c.from.ensures)

@@ -3,15 +3,21 @@ use Rattle.bd_outside.specs.declared.whole.ReadError.{ReadError}
 use Rattle.bd_machine.specs.declared.error.ScriptError.TheVariants.{BadScript}
 use Rattle.bd_machine.specs.Refusals.{IsNotSimple, RefusesText}
 use Rattle.bd_machine.specs.Simple.{IsSimpleText}
-use Rattle.bd_top.proofs.Reading.{told, told_end, told_long, too_long_script, volume_for_machine}
+use Rattle.bd_top.proofs.Reading.{told, told_end, told_long, too_long_script, volume_for_machine, within_long}
 use Rattle.bd_top.proofs.inputs.read_script.Goals as goal
 
 pub returns-in-Err-TooLong-clause-err : goal.returns-in-Err-TooLong-clause-err
 returns-in-Err-TooLong-clause-err g c =
-    (refl, refl, told_long _ _ 8388608 (IsNotSimple c.args.volume.now) (c.in-Err-TooLong.ensures.too_long (ap (λ (e : ReadError). Err e) c.in-Err-TooLong.field-0-is)) (too_long_script c.args.volume.now))
+    let passes = c.in-Err-TooLong.ensures.too_long (ap (λ (e : ReadError). Err e) c.in-Err-TooLong.field-0-is) in
+    record {
+      no_line = refl;
+      no_rule = refl;
+      not_simple = told_long _ _ 8388608 (IsNotSimple c.args.volume.now) passes (too_long_script c.args.volume.now);
+      within = within_long _ _ 8388608 passes;
+    }
 
 pub read_simple-requires : goal.read_simple-requires
-read_simple-requires g c = volume_for_machine c.args.volume.now (c.volume_within_limits.ensures c.args.volume.now c.requires)
+read_simple-requires g c = volume_for_machine c.args.volume.now (c.sound_volumes.ensures.sound c.args.volume.now c.requires)
 
 pub returns-in-Ok-read_simple-clause-ok : goal.returns-in-Ok-read_simple-clause-ok
 returns-in-Ok-read_simple-clause-ok g c =
@@ -26,4 +32,9 @@ returns-in-Err-BadScript-clause-err g c =
     let told_error : RefusesText v c.as_slice.result.now (BadScript c.in-Err-BadScript.line c.in-Err-BadScript.rule) =
     subst (RefusesText v c.as_slice.result.now) c.in-Err-BadScript.field-0-is c.in-Err-BadScript.ensures.refused in
     let refused : IsNotSimple v c.in-Ok.text = subst (IsNotSimple v) c.as_slice.ensures told_error.2 in
-    (told_error.0, told_error.1, told _ _ c.in-Ok.text (IsNotSimple v) c.in-Ok.ensures.ok refused)
+    record {
+      no_line = told_error.0;
+      no_rule = told_error.1;
+      not_simple = told _ _ c.in-Ok.text (IsNotSimple v) c.in-Ok.ensures.ok refused;
+      within = c.in-Ok.ensures.within;
+    }

@@ -14,10 +14,10 @@ use Rattle.bd_top.proofs.Reading.{volume_for_machine}
 use Rattle.bd_top.proofs.replay.run_script.Goals as goal
 
 pub replay-requires-clause-volume : goal.replay-requires-clause-volume
-replay-requires-clause-volume c = volume_for_machine c.args.volume (c.volume_within_limits.ensures c.args.volume c.requires.volume)
+replay-requires-clause-volume c = volume_for_machine c.args.volume (c.sound_volumes.ensures.sound c.args.volume c.requires.volume)
 
 pub replay-requires-clause-files : goal.replay-requires-clause-files
-replay-requires-clause-files c = (c.volume_within_limits.ensures c.args.volume c.requires.volume).files.valid
+replay-requires-clause-files c = (c.sound_volumes.ensures.sound c.args.volume c.requires.volume).files.valid
 
 pub returns : goal.returns
 returns c =
@@ -41,7 +41,7 @@ returns c =
           ∙ subst (λ (start : Volume). visible (boot_state (start_store start c.args.script) c.args.script) m.trace ≡ m.state.journal) ran.start
           (subst (λ (script : Script). visible (boot_state (start_store m.start script) script) m.trace ≡ m.state.journal) ran.script ran.history.follows.journal)
           ∙ journal_is;
-      image_is = c.in_ok-image.ensures.image ∙ ap image_of c.in_ok-volume.ensures.left;
+      image_is = c.in_ok-image.ensures.image ∙ ap image_of c.in_ok-volume.ensures;
       accepted = c.in_ok-image.ensures.accepted;
       report_is =
           c.in_ok-report.ensures c.requires.script.0 c.requires.script.2.some c.requires.script.2.one_block

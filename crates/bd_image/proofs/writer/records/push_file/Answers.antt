@@ -15,7 +15,7 @@ unfolding file_bytes
 returns c =
     let file : Inode = c.args.file.now in
     let l : List ℕ = c.args.out.now.items in
-    let es : List Extent = c.in_ok-extents.extents.items in
+    let es : List Extent = c.in_ok-extents.extents in
     let whole : List Extent → List ℕ =
     λ es. l ++ (1 ∷ file.perms ∷ little_bytes 2 (length es) ++ little_bytes 4 file.owner ++ little_bytes 8 file.size
     ++ file.name ++ replicate (32 - length file.name) 0
@@ -33,7 +33,7 @@ returns c =
     (c.in_ok-push_u16.ensures ∙ ap (λ (k : ℕ). c.push-2.new.self.items ++ little_bytes 2 k) count)
     c.in_ok-push_u32.ensures c.in_ok-push_u64.ensures
     (c.in_ok-push_name.ensures ∙ ap (λ (name : List ℕ). c.push_u64.new.out.items ++ name ++ replicate (32 - length name) 0) c.as_slice-2.ensures)
-    (c.in_ok-push_extents.ensures ∙ ap (λ (xs : List Extent). c.push_name.new.out.items ++ flat_map extent_bytes xs) c.deref.ensures.value)
+    (c.in_ok-push_extents.ensures ∙ ap (λ (xs : List Extent). c.push_name.new.out.items ++ flat_map extent_bytes xs) c.as_slice-3.ensures)
     (h ∙ ap (λ (k : ℕ). c.push_extents.new.out.items ++ replicate (8 * (24 - k) + 16) 0) count')
     ∙ ap whole same)
     c.push_zeros.ensures
