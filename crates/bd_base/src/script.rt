@@ -1,6 +1,7 @@
 //! Scripts: what the processes call, and in which order actors take turns.
-use crate::list::List;
-use crate::numbers::Actor;
+use crate::list::{Bytes, List};
+use crate::numbers::{Actor, Vba};
+use crate::range::Range;
 use crate::volume::Name;
 
 /// What a descriptor may do.
@@ -21,13 +22,31 @@ pub enum How {
     Direct,
 }
 
-/// A call of a process.
+/// A call of a process. Descriptors are numbers that the process names: they may be of none that is open.
 #[derive(Debug, Drop)]
 pub enum Call {
     /// `open NAME MODE HOW`
     Enter { name: Name, mode: Mode, how: How },
+    /// `create NAME PERMS`: an empty file.
+    Create { name: Name, perms: u8 },
     /// `read FD OFF LEN`: `len` bytes from the place `off` of the file.
     Read { fd: u8, off: u64, len: u16 },
+    /// `write FD OFF RUNS`: these bytes to the place `off` of the file.
+    Write { fd: u8, off: u64, bytes: Bytes },
+    /// `truncate FD SIZE`: the file gets this size.
+    Truncate { fd: u8, size: u64 },
+    /// `unlink NAME`: the file is removed.
+    Unlink { name: Name },
+    /// `size FD`: the size of the file.
+    Size { fd: u8 },
+    /// `map FD`: rights on the parts that have none yet.
+    Map { fd: u8 },
+    /// `close FD`: the descriptor is given back.
+    Close { fd: u8 },
+    /// `raw-read VBA LO LEN`: the bytes of the range of the block at this address.
+    RawRead { vba: Vba, range: Range },
+    /// `raw-write VBA LO RUNS`: these bytes to the block at this address, from the place `lo` on.
+    RawWrite { vba: Vba, lo: u16, bytes: Bytes },
 }
 
 /// The calls of a process in their order.

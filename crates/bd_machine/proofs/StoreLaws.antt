@@ -29,7 +29,7 @@ use Rattle.bd_machine.specs.declared.entry.Entry.TheVariants.{Access, Attached, 
 use Rattle.bd_machine.specs.Calls.{at_of, is_ended_by, is_mapped, opened_fd}
 use Rattle.bd_machine.specs.History.{change_of, effect_of, settled, with_descriptor}
 use Rattle.bd_machine.specs.Laws.{AreOfCall, IsNextEntry, StartIsValid, StepKeepsValid}
-use Rattle.bd_machine.specs.Rules.{EntryRule, IsOpen, RightFile, Rights, NoPlain, FitsStore}
+use Rattle.bd_machine.specs.Rules.{EntryRule, FitsStore, IsOfCall, IsOpen, NoPlain, RightFile, Rights}
 use Rattle.bd_machine.specs.Store.{Descriptor, HasRows, Store, Valid, attaches_by, descriptor_at, has_part, has_plain, in_slot, is_empty_slot, is_plain_of, parts_in, size_of, slots_of, volume_in, with_part, with_slot, with_work, work_of}
 use Rattle.bd_machine.proofs.Descriptors.{AreSound, IsSound, KeepsFile, all_sound, alter, altered, attaching, not_plain, put, rows_slot, rows_work, sound_all, sound_work}
 use Rattle.bd_machine.proofs.Slots.{none_before, none_joined, other_row, row_there, row_within}
@@ -40,6 +40,10 @@ parted call before [] back all = (tt, subst (λ (first : List Entry). AreOfCall 
 parted call before (e ∷ front) back all =
     let rest = parted call (before ++ e ∷ []) front back all.1 in
     ((all.0, rest.0), subst (λ (first : List Entry). AreOfCall call first back) (append_assoc before (e ∷ []) front) rest.1)
+
+-- the next entry of a call is one that the call makes
+is_of_call : (s : Store) (call : Call) (e : Entry) → IsNextEntry s call e → IsOfCall call (work_of s (at_of e).process) e
+is_of_call s call e next = (parted call [] (work_of s (at_of e).process) (e ∷ []) next.of_call).1.0
 
 -- the descriptor that a call opened stays the first
 opened_stays : (entries more : List Entry) (fd : ℕ) → opened_fd entries ≡ Some fd → opened_fd (entries ++ more) ≡ Some fd
@@ -209,7 +213,7 @@ opened-keeps s name mode how at file fd entry_mode entry_how valid next keeps =
     let e = Opened at file fd entry_mode entry_how in
     let call = Enter name mode how in
     let p = at.process in
-    let of_call = (parted call [] (work_of s p) (e ∷ []) next.of_call).1.0 in
+    let of_call = is_of_call s call e next in
     let direct : entry_how ≡ Direct = of_call.1 ∙ of_call.2 in
     let place = place_found is_empty_slot 0 (slots_of s p) fd (keeps IsOpen) in
     let within : p < length s.opens = row_there s.opens p place.2.0 place.0 place.2.2 in
@@ -330,12 +334,9 @@ keeps-valid : (s : Store) (call : Call) (e : Entry) → Valid s → IsNextEntry 
 keeps-valid s (Enter name mode how) (Opened at file fd entry_mode entry_how) valid next keeps = opened-keeps s name mode how at file fd entry_mode entry_how valid next keeps
 keeps-valid s (Enter name mode how) (Attached at fd part) valid next keeps = attached-keeps s name mode how at fd part valid next keeps
 keeps-valid s (Enter name mode how) (Mapped at fd count) valid next keeps = mapped-keeps s name mode how at fd count valid next keeps
-keeps-valid s (Enter name mode how) (Access at piece fd file index block range wrote way bytes) valid next keeps = absurd (parted (Enter name mode how) [] (work_of s at.process) (Access at piece fd file index block range wrote way bytes ∷ []) next.of_call).1.0
-keeps-valid s (Read read_fd off len) (Opened at file fd entry_mode entry_how) valid next keeps = absurd (parted (Read read_fd off len) [] (work_of s at.process) (Opened at file fd entry_mode entry_how ∷ []) next.of_call).1.0
-keeps-valid s (Read read_fd off len) (Attached at fd part) valid next keeps = absurd (parted (Read read_fd off len) [] (work_of s at.process) (Attached at fd part ∷ []) next.of_call).1.0
-keeps-valid s (Read read_fd off len) (Mapped at fd count) valid next keeps = absurd (parted (Read read_fd off len) [] (work_of s at.process) (Mapped at fd count ∷ []) next.of_call).1.0
 keeps-valid s (Read read_fd off len) (Access at piece fd file index block range wrote way bytes) valid next keeps =
     access-keeps s read_fd off len at piece fd file index block range wrote way bytes valid next keeps
+keeps-valid s call e valid next keeps = absurd (is_of_call s call e next)
 
 pub step_keeps_valid : StepKeepsValid
 step_keeps_valid s call e t valid next step = subst Valid (sym step.after) (keeps-valid s call e valid next step.keeps)

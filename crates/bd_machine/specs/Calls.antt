@@ -49,6 +49,8 @@ abbrev pub is_ended_by : Call → List Entry → Bool
 is_ended_by (Enter name mode how) entries = list_any is_mapped entries
 is_ended_by (Read fd off len) entries =
     list_all (λ number. list_any (is_access_of number) entries) (range_with_len 0 (length (pieces off len)))
+-- a call of another kind does not end
+is_ended_by call entries = false
 
 -- whether the call is finished in the journal
 abbrev pub is_finished : Script → List Entry → At → Bool
@@ -64,3 +66,5 @@ opened_fd (entry ∷ entries) = opened_fd entries
 abbrev pub fd_of_call : Call → List Entry → Option ℕ
 fd_of_call (Enter name mode how) entries = opened_fd entries
 fd_of_call (Read fd off len) entries = Some fd
+-- a call of another kind has no descriptor
+fd_of_call call entries = None

@@ -102,6 +102,8 @@ next_of_call s at (Read fd off len) entries =
     (λ piece. option_map (λ entry. (rows.Move, entry)) (moving s at fd number piece))
     (slice_get (pieces off len) number))
     (next_piece entries (pieces off len))
+-- no turn acts for a call of another kind
+next_of_call s at call entries = None
 
 -- what a turn of this processor would do; None where it has nothing to do
 abbrev pub next_action : State → ℕ → Option Action

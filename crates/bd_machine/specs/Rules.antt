@@ -64,6 +64,8 @@ IsOfCall (Enter name mode how) entries (Access at piece fd file index block rang
 IsOfCall (Read call_fd off len) entries (Access at piece fd file index block range wrote way bytes) =
     (fd ≡ call_fd) × (slice_get (pieces off len) piece ≡ Some (record { index = index; range = range })) × (wrote ≡ false) × (way ≡ ways.Direct)
 IsOfCall (Read call_fd off len) entries entry = ⊥
+-- a call of another kind has no entry
+IsOfCall call entries entry = ⊥
 
 -- whether the entry tells of an open that began
 abbrev pub is_opened : Entry → Bool
@@ -151,6 +153,8 @@ MayBegin s at (Enter name mode how) =
     (file : ℕ) × (f : Inode) × (id_of name s.files ≡ Some file) × (file_at s file ≡ Some f)
     × (open_denial mode uid f.owner f.perms ≡ None) × IsSome (lowest_fd s at.process))
 MayBegin s at (Read fd off len) = IsSome (descriptor_at s at.process fd)
+-- a call of another kind does not begin
+MayBegin s at call = ⊥
 
 -- the entry keeps the rule, as far as the store tells
 abbrev pub FitsStore : Store → Call → Entry → EntryRule → Type 0

@@ -41,6 +41,8 @@ read_reply bytes = codes "ok " ++ decimal (length bytes) ++ 32 ∷ runs_text byt
 abbrev pub reply : Call → List Entry → List ℕ
 reply (Enter name mode how) entries = open_reply entries
 reply (Read fd off len) entries = read_reply (gathered entries 0 (pieces off len))
+-- a call of another kind has no reply
+reply call entries = []
 
 -- the line of a call: its number and its reply
 abbrev pub call_line : List Entry → ℕ → List Call → ℕ → List ℕ
