@@ -1,6 +1,7 @@
 //! What every other crate names: wrapped numbers, limits, lists, and the plain data of files and scripts.
 #![tactic(auto)]
 
+mod journal;
 mod limits;
 mod list;
 mod names;
@@ -10,6 +11,7 @@ mod reason;
 mod script;
 mod volume;
 
+pub use journal::{At, Found, Way};
 pub use limits::{
     ACTORS, ADDRESSES, BLOCK_SIZE, BLOCKS, DESCRIPTORS, EXTENTS, FILE_SIZE, FILES, FRAGMENTS,
     IMAGE_SIZE, NAME_SIZE, PART_BLOCKS, PARTS, PERMS, PROCESSES, SCRIPT_SIZE,

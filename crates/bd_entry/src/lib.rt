@@ -1,0 +1,6 @@
+//! The entries of a journal.
+#![tactic(auto)]
+
+mod entry;
+
+pub use entry::{Entry, EntryList};
