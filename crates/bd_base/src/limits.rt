@@ -3,6 +3,9 @@
 /// How many processes a script may have.
 pub const PROCESSES: u64 = 16;
 
+/// How many calls a process may have.
+pub const CALLS: u64 = 256;
+
 /// How many descriptors a process may have open.
 pub const DESCRIPTORS: u64 = 8;
 
@@ -41,6 +44,12 @@ pub const IMAGE_SIZE: u64 = 67_108_864;
 
 /// How many bytes a script may have.
 pub const SCRIPT_SIZE: u64 = 8_388_608;
+
+/// How many bytes a call may read or write.
+pub const CALL_BYTES: u64 = 16_384;
+
+/// The greatest place in a file, and the greatest size, that a call may name.
+pub const LAST_PLACE: u64 = 1_099_511_627_776;
 
 /// How many bytes a file's name may have.
 pub const NAME_SIZE: u64 = 31;
