@@ -8,8 +8,8 @@ use Rattle.std.proofs.lemmas.List.Elements.{filter-append}
 use Rattle.std.proofs.lemmas.Option.{MatchOption-at_some}
 use Rattle.bd_base.specs.declared.script.Call.{Call}
 use Rattle.bd_base.specs.declared.script.Script.{Script}
-use Rattle.bd_machine.specs.declared.entry.At.{At}
-use Rattle.bd_machine.specs.declared.entry.Entry.{Entry}
+use Rattle.bd_base.specs.declared.journal.At.{At}
+use Rattle.bd_entry.specs.declared.entry.Entry.{Entry}
 use Rattle.bd_machine.specs.Calls.{at_of, call_at, entries_of, is_ended_by, is_finished, same_call}
 use Rattle.bd_machine.specs.Laws.{AreOfCall}
 use Rattle.bd_machine.specs.Rules.{EntryRule, FitsCall, FitsScript, IsNextCall, IsOfCall, NextCall}

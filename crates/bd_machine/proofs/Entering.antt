@@ -12,8 +12,6 @@ use Rattle.bd_base.specs.declared.volume.Volume.{Volume}
 use Rattle.bd_base.specs.Files.{parts_for}
 use Rattle.bd_base.specs.Inodes.{id_of, inode_at}
 use Rattle.bd_base.specs.Volumes.{IsInode, IsVolume}
-use Rattle.bd_machine.specs.declared.entry.Entry.{Entry}
-use Rattle.bd_machine.specs.declared.entry.Entry.TheVariants.{Attached, Mapped, Opened}
 use Rattle.bd_machine.specs.declared.open_file.OpenFile.{OpenFile}
 use Rattle.bd_machine.specs.declared.run.Run.{Run}
 use Rattle.bd_machine.specs.declared.turn.Row.TheVariants as rows
@@ -21,6 +19,8 @@ use Rattle.bd_machine.specs.declared.turn.Turn.{Turn}
 use Rattle.bd_machine.specs.declared.turn.Turn.TheVariants.{Did}
 use Rattle.std.proofs.lemmas.Option.{same_Some}
 use Rattle.std.proofs.lemmas.List.FromFn.{map-range_with_len_more}
+use Rattle.bd_entry.specs.declared.entry.Entry.{Entry}
+use Rattle.bd_entry.specs.declared.entry.Entry.TheVariants.{Attached, Mapped, Opened}
 use Rattle.bd_machine.specs.Calls.{calls_of}
 use Rattle.bd_machine.specs.Running.{FollowsTrace, IsAt, IsReached, Phase, Before, Attaching, Reading, Over, Turned, attached_entry, journal_at, mapped_entry, opened_entry, part_total, state_of}
 use Rattle.bd_machine.specs.Simple.{Grants, Wish, simple_script}

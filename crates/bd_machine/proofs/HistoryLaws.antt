@@ -8,9 +8,9 @@ use Rattle.std.proofs.lemmas.Option.{none-some, slice_get_cases}
 use Rattle.bd_base.specs.declared.script.Call.{Call}
 use Rattle.bd_base.specs.declared.script.Process.{Process}
 use Rattle.bd_base.specs.declared.script.Script.{Script}
-use Rattle.bd_machine.specs.declared.entry.At.{At}
-use Rattle.bd_machine.specs.declared.entry.Entry.{Entry}
-use Rattle.bd_machine.specs.declared.entry.Entry.TheVariants.{Access, Attached, Mapped, Opened}
+use Rattle.bd_base.specs.declared.journal.At.{At}
+use Rattle.bd_entry.specs.declared.entry.Entry.{Entry}
+use Rattle.bd_entry.specs.declared.entry.Entry.TheVariants.{Attached, Mapped, Opened}
 use Rattle.bd_machine.specs.Calls.{at_of, call_at, entries_of, fd_of_call, is_ended_by, is_finished, same_call}
 use Rattle.bd_machine.specs.History.{InOrderFrom, Legal, Step, change_of, effect_of, settled, with_descriptor}
 use Rattle.bd_machine.specs.Laws.{AreOfCall, HistoriesKeepValid, IsNextEntry}
@@ -25,7 +25,7 @@ change_of-work : (s : Store) (e : Entry) → (change_of s e).work ≡ s.work
 change_of-work s (Opened at file fd mode how) = refl
 change_of-work s (Attached at fd part) = refl
 change_of-work s (Mapped at fd count) = refl
-change_of-work s (Access at piece fd file index block range wrote way bytes) = refl
+change_of-work s entry = refl
 
 -- a call that has ended leaves no entries
 settled-work : (call : Call) (entries : List Entry) (process : ℕ) (s : Store) → (settled call entries process s).work ≡ slice_set s.work process []

@@ -5,7 +5,7 @@ use Rattle.std.proofs.lemmas.List.{append-nil}
 use Rattle.std.proofs.lemmas.Option.{same_Some}
 use Rattle.bd_base.specs.declared.script.Call.{Call}
 use Rattle.bd_base.specs.declared.script.Script.{Script}
-use Rattle.bd_machine.specs.declared.entry.Entry.{Entry}
+use Rattle.bd_entry.specs.declared.entry.Entry.{Entry}
 use Rattle.bd_machine.specs.Course.{visible}
 use Rattle.bd_machine.specs.History.{InOrderFrom, Legal, Step, effect_of}
 use Rattle.bd_machine.specs.Laws.{InOrderInParts, LeadsToOneStore, LegalInParts, RunsOnlyAdd, TurnsOnlyAdd}

@@ -11,7 +11,7 @@ use Rattle.bd_base.specs.declared.script.Mode.TheVariants.{R}
 use Rattle.bd_base.specs.declared.volume.Volume.{Volume}
 use Rattle.bd_base.specs.Files.{limit_of}
 use Rattle.bd_base.specs.Volumes.{IsInode}
-use Rattle.bd_machine.specs.declared.entry.Entry.{Entry}
+use Rattle.bd_entry.specs.declared.entry.Entry.{Entry}
 use Rattle.bd_machine.specs.Calls.{calls_of, entries_of, is_finished}
 use Rattle.bd_machine.specs.History.{InOrder, InOrderSoFar, Legal, Step}
 use Rattle.bd_machine.specs.Machine.{State}

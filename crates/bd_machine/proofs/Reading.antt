@@ -5,8 +5,8 @@ use Rattle.std.proofs.lemmas.Option.{same_Some}
 use Rattle.bd_base.specs.declared.script.Call.TheVariants.{Read}
 use Rattle.bd_base.specs.declared.script.Script.{Script}
 use Rattle.bd_base.specs.declared.volume.Volume.{Volume}
-use Rattle.bd_machine.specs.declared.entry.Entry.TheVariants.{Access}
-use Rattle.bd_machine.specs.declared.entry.Way.TheVariants as ways
+use Rattle.bd_base.specs.declared.journal.Way.TheVariants as ways
+use Rattle.bd_entry.specs.declared.entry.Entry.TheVariants.{Access}
 use Rattle.bd_machine.specs.declared.open_file.OpenFile.{OpenFile}
 use Rattle.bd_machine.specs.declared.run.Moved.{Moved}
 use Rattle.bd_machine.specs.declared.run.Run.{Run}

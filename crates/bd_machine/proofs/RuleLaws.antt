@@ -3,7 +3,7 @@ use Rattle.std.specs.Prelude.{nat_eq, cond}
 use Rattle.std.proofs.Common.{◌≡◌, ℕ, ◌<◌, ◌≤◌, List, refl, sym, ap, ◌∙◌, subst, arith, ⊎_elim}
 use Rattle.std.proofs.lemmas.Bool.{cases_lt}
 use Rattle.bd_base.specs.declared.script.Script.{Script}
-use Rattle.bd_machine.specs.declared.entry.Entry.{Entry}
+use Rattle.bd_entry.specs.declared.entry.Entry.{Entry}
 use Rattle.bd_machine.specs.Laws.{NumbersDiffer, OneLeastRule}
 use Rattle.bd_machine.specs.Rules.{BreaksRule, EntryRule, NextCall, FitsCall, Once, RightWay, IsOpen, RightFile, Allowed, Rights, NoPlain, RightBlock, WithinLimit, RightBytes, NotRefused, entry_rule_number}
 use Rattle.bd_machine.specs.Store.{Store}

@@ -20,12 +20,12 @@ use Rattle.bd_base.specs.declared.script.Mode.{Mode}
 use Rattle.bd_base.specs.declared.script.Process.{Process}
 use Rattle.bd_base.specs.declared.volume.Inode.{Inode}
 use Rattle.bd_base.specs.declared.range.Range.{Range}
+use Rattle.bd_base.specs.declared.journal.At.{At}
+use Rattle.bd_base.specs.declared.journal.Way.{Way}
 use Rattle.bd_base.specs.Inodes.{has_name, id_of, inode_at}
 use Rattle.bd_base.specs.Volumes.{IsSoundVolume}
-use Rattle.bd_machine.specs.declared.entry.At.{At}
-use Rattle.bd_machine.specs.declared.entry.Way.{Way}
-use Rattle.bd_machine.specs.declared.entry.Entry.{Entry}
-use Rattle.bd_machine.specs.declared.entry.Entry.TheVariants.{Access, Attached, Mapped, Opened}
+use Rattle.bd_entry.specs.declared.entry.Entry.{Entry}
+use Rattle.bd_entry.specs.declared.entry.Entry.TheVariants.{Access, Attached, Mapped, Opened}
 use Rattle.bd_machine.specs.Calls.{at_of, is_ended_by, is_mapped, opened_fd}
 use Rattle.bd_machine.specs.History.{change_of, effect_of, settled, with_descriptor}
 use Rattle.bd_machine.specs.Laws.{AreOfCall, IsNextEntry, StartIsValid, StepKeepsValid}
@@ -49,9 +49,7 @@ is_of_call s call e next = (parted call [] (work_of s (at_of e).process) (e ∷ 
 opened_stays : (entries more : List Entry) (fd : ℕ) → opened_fd entries ≡ Some fd → opened_fd (entries ++ more) ≡ Some fd
 opened_stays [] more fd e = absurd (none-some fd e)
 opened_stays (Opened at file by mode how ∷ entries) more fd e = e
-opened_stays (Attached at by part ∷ entries) more fd e = opened_stays entries more fd e
-opened_stays (Mapped at by count ∷ entries) more fd e = opened_stays entries more fd e
-opened_stays (Access at piece by file index block range wrote way bytes ∷ entries) more fd e = opened_stays entries more fd e
+opened_stays (entry ∷ entries) more fd e = opened_stays entries more fd e
 
 -- an open attaches by the descriptor that it opened, and by no other
 attach_one : (name : List ℕ) (mode : Mode) (how : How) (before entries : List Entry) (fd other : ℕ) → AreOfCall (Enter name mode how) before entries →
@@ -68,16 +66,14 @@ attach_one name mode how before (Attached at by part ∷ entries) fd other all o
 attach_one name mode how before (Mapped at by count ∷ entries) fd other all opened ne =
     attach_one name mode how (before ++ Mapped at by count ∷ []) entries fd other all.1
     (subst (λ (es : List Entry). opened_fd es ≡ Some fd) (sym (append_assoc before (Mapped at by count ∷ []) entries)) opened) ne
-attach_one name mode how before (Access at piece by file index block range wrote way bytes ∷ entries) fd other all opened ne = absurd all.0
+attach_one name mode how before (entry ∷ entries) fd other all opened ne = absurd all.0
 
 -- a read attaches by none
 attach_none : (read_fd off len : ℕ) (before entries : List Entry) (other : ℕ) → AreOfCall (Read read_fd off len) before entries → list_any (attaches_by other) entries ≡ false
 attach_none read_fd off len before [] other all = refl
-attach_none read_fd off len before (Opened at file by mode how ∷ entries) other all = absurd all.0
-attach_none read_fd off len before (Attached at by part ∷ entries) other all = absurd all.0
-attach_none read_fd off len before (Mapped at by count ∷ entries) other all = absurd all.0
 attach_none read_fd off len before (Access at piece by file index block range wrote way bytes ∷ entries) other all =
     attach_none read_fd off len (before ++ Access at piece by file index block range wrote way bytes ∷ []) entries other all.1
+attach_none read_fd off len before (entry ∷ entries) other all = absurd all.0
 
 -- what an element that a search finds is
 found : {X : Type 0} (test : X → Bool) (P : X → Type 0) (xs : List X) (x : X) → find test xs ≡ Some x → All P xs → P x

@@ -6,7 +6,7 @@ use Rattle.std.proofs.Common.{cond, ◌≡◌, ℕ, Bool, true, false, List, [],
 use Rattle.bd_base.specs.declared.script.Script.{Script}
 use Rattle.bd_base.specs.declared.volume.Volume.{Volume}
 use Rattle.bd_base.specs.Volumes.{IsVolume}
-use Rattle.bd_machine.specs.declared.entry.Entry.{Entry}
+use Rattle.bd_entry.specs.declared.entry.Entry.{Entry}
 use Rattle.bd_machine.specs.declared.run.Run.{Run}
 use Rattle.bd_machine.specs.declared.turn.Event.{Event}
 use Rattle.bd_machine.specs.declared.turn.Turn.TheVariants.{Did, Idle}

@@ -6,10 +6,10 @@ use Rattle.bd_base.specs.declared.script.Call.{Call}
 use Rattle.bd_base.specs.declared.script.Call.TheVariants.{Enter, Read}
 use Rattle.bd_base.specs.declared.script.Process.{Process}
 use Rattle.bd_base.specs.declared.script.Script.{Script}
+use Rattle.bd_base.specs.declared.journal.At.{At}
 use Rattle.bd_base.specs.Pieces.{pieces}
-use Rattle.bd_machine.specs.declared.entry.At.{At}
-use Rattle.bd_machine.specs.declared.entry.Entry.{Entry}
-use Rattle.bd_machine.specs.declared.entry.Entry.TheVariants.{Access, Attached, Mapped, Opened}
+use Rattle.bd_entry.specs.declared.entry.Entry.{Entry}
+use Rattle.bd_entry.specs.declared.entry.Entry.TheVariants.{Access, Attached, Cleared, Closed, Created, Detached, Extended, Mapped, Missed, Opened, Refused, Released, SizeRead, Sized, Unlinked}
 
 -- the calls of a process, none where there is no such process
 abbrev pub calls_of : Script → ℕ → List Call
@@ -22,9 +22,20 @@ call_at script at = slice_get (calls_of script at.process) at.call
 -- the call that an entry belongs to
 abbrev pub at_of : Entry → At
 at_of (Opened at file fd mode how) = at
+at_of (Created at file name perms) = at
 at_of (Attached at fd part) = at
 at_of (Mapped at fd count) = at
+at_of (Cleared at owner fd part) = at
+at_of (Detached at owner fd part) = at
 at_of (Access at piece fd file index block range wrote way bytes) = at
+at_of (Missed at piece found) = at
+at_of (Extended at file to block) = at
+at_of (Released at file index block) = at
+at_of (Sized at fd size) = at
+at_of (SizeRead at fd size) = at
+at_of (Closed at fd) = at
+at_of (Unlinked at file) = at
+at_of (Refused at piece reason) = at
 
 -- whether both are the same call of the same process
 abbrev pub same_call : At → At → Bool

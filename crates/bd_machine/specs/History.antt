@@ -3,8 +3,8 @@ use Rattle.std.specs.Prelude.{◌≡◌, ℕ, ◌<◌, cond, true, List, [], ◌
 use Rattle.std.specs.Option.{option_map, option_map_or}
 use Rattle.bd_base.specs.declared.script.Call.{Call}
 use Rattle.bd_base.specs.declared.script.Script.{Script}
-use Rattle.bd_machine.specs.declared.entry.Entry.{Entry}
-use Rattle.bd_machine.specs.declared.entry.Entry.TheVariants.{Access, Attached, Mapped, Opened}
+use Rattle.bd_entry.specs.declared.entry.Entry.{Entry}
+use Rattle.bd_entry.specs.declared.entry.Entry.TheVariants.{Attached, Mapped, Opened}
 use Rattle.bd_machine.specs.Calls.{at_of, call_at, calls_of, fd_of_call, is_ended_by, is_finished}
 use Rattle.bd_machine.specs.Rules.{EntryRule, FitsScript, FitsStore}
 use Rattle.bd_machine.specs.Store.{Descriptor, Store, descriptor_at, size_of, with_part, with_slot, with_work, work_of}
@@ -20,7 +20,8 @@ change_of s (Opened at file fd mode how) =
     (Some (record { file = file; mode = mode; how = how; attached = []; cleared = []; known = 0; told = size_of s file }))
 change_of s (Attached at fd part) = with_descriptor s at.process fd (λ d. record d { attached = with_part part d.attached })
 change_of s (Mapped at fd count) = with_descriptor s at.process fd (λ d. record d { told = size_of s d.file })
-change_of s (Access at piece fd file index block range wrote way bytes) = s
+-- an access that reads changes nothing, nor does an entry that no call makes
+change_of s entry = s
 
 -- a call with these entries has ended: the process knows the size that it was told
 abbrev pub settled : Call → List Entry → ℕ → Store → Store

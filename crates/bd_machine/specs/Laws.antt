@@ -4,7 +4,7 @@ use Rattle.bd_base.specs.declared.script.Call.{Call}
 use Rattle.bd_base.specs.declared.script.Script.{Script}
 use Rattle.bd_base.specs.declared.volume.Volume.{Volume}
 use Rattle.bd_base.specs.Volumes.{IsSoundVolume}
-use Rattle.bd_machine.specs.declared.entry.Entry.{Entry}
+use Rattle.bd_entry.specs.declared.entry.Entry.{Entry}
 use Rattle.bd_machine.specs.declared.turn.Event.{Event}
 use Rattle.bd_machine.specs.Course.{IsCourse, after_events, visible}
 use Rattle.bd_machine.specs.Calls.{at_of, is_ended_by}

@@ -10,13 +10,13 @@ use Rattle.bd_base.specs.declared.script.Mode.{Mode}
 use Rattle.bd_base.specs.declared.script.Process.{Process}
 use Rattle.bd_base.specs.declared.script.Script.{Script}
 use Rattle.bd_base.specs.declared.volume.Inode.{Inode}
+use Rattle.bd_base.specs.declared.journal.At.{At}
+use Rattle.bd_base.specs.declared.journal.Way.TheVariants as ways
 use Rattle.bd_base.specs.Inodes.{id_of}
 use Rattle.bd_base.specs.Pieces.{Piece, pieces}
 use Rattle.bd_base.specs.Policy.{open_denial}
-use Rattle.bd_machine.specs.declared.entry.At.{At}
-use Rattle.bd_machine.specs.declared.entry.Entry.{Entry}
-use Rattle.bd_machine.specs.declared.entry.Entry.TheVariants.{Access, Attached, Mapped, Opened}
-use Rattle.bd_machine.specs.declared.entry.Way.TheVariants as ways
+use Rattle.bd_entry.specs.declared.entry.Entry.{Entry}
+use Rattle.bd_entry.specs.declared.entry.Entry.TheVariants.{Access, Attached, Mapped, Opened}
 use Rattle.bd_machine.specs.declared.turn.Row.{Row}
 use Rattle.bd_machine.specs.declared.turn.Row.TheVariants as rows
 use Rattle.bd_machine.specs.declared.turn.Turn.{Turn}

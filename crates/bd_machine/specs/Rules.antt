@@ -7,13 +7,13 @@ use Rattle.bd_base.specs.declared.script.Call.TheVariants.{Enter, Read}
 use Rattle.bd_base.specs.declared.script.How.TheVariants as hows
 use Rattle.bd_base.specs.declared.script.Script.{Script}
 use Rattle.bd_base.specs.declared.volume.Inode.{Inode}
+use Rattle.bd_base.specs.declared.journal.At.{At}
+use Rattle.bd_base.specs.declared.journal.Way.TheVariants as ways
 use Rattle.bd_base.specs.Inodes.{id_of}
 use Rattle.bd_base.specs.Pieces.{pieces}
 use Rattle.bd_base.specs.Policy.{open_denial}
-use Rattle.bd_machine.specs.declared.entry.At.{At}
-use Rattle.bd_machine.specs.declared.entry.Entry.{Entry}
-use Rattle.bd_machine.specs.declared.entry.Entry.TheVariants.{Access, Attached, Mapped, Opened}
-use Rattle.bd_machine.specs.declared.entry.Way.TheVariants as ways
+use Rattle.bd_entry.specs.declared.entry.Entry.{Entry}
+use Rattle.bd_entry.specs.declared.entry.Entry.TheVariants.{Access, Attached, Mapped, Opened}
 use Rattle.bd_machine.specs.Calls.{at_of, call_at, calls_of, entries_of, fd_of_call, is_access_of, is_finished}
 use Rattle.bd_machine.specs.Store.{Store, blocks_in, descriptor_at, file_at, has_part, has_plain, limit_at, lowest_fd, lowest_unattached, has_fragment, next_part, work_of}
 
@@ -60,11 +60,9 @@ abbrev pub IsOfCall : Call → List Entry → Entry → Type 0
 IsOfCall (Enter name mode how) entries (Opened at file fd entry_mode entry_how) = (entry_mode ≡ mode) × (entry_how ≡ how) × (how ≡ hows.Direct)
 IsOfCall (Enter name mode how) entries (Attached at fd part) = fd_of_call (Enter name mode how) entries ≡ Some fd
 IsOfCall (Enter name mode how) entries (Mapped at fd count) = fd_of_call (Enter name mode how) entries ≡ Some fd
-IsOfCall (Enter name mode how) entries (Access at piece fd file index block range wrote way bytes) = ⊥
 IsOfCall (Read call_fd off len) entries (Access at piece fd file index block range wrote way bytes) =
     (fd ≡ call_fd) × (slice_get (pieces off len) piece ≡ Some (record { index = index; range = range })) × (wrote ≡ false) × (way ≡ ways.Direct)
-IsOfCall (Read call_fd off len) entries entry = ⊥
--- a call of another kind has no entry
+-- no call makes another entry
 IsOfCall call entries entry = ⊥
 
 -- whether the entry tells of an open that began
@@ -97,6 +95,8 @@ HasRightDescriptor s (Opened at file fd mode how) = lowest_fd s at.process ≡ S
 HasRightDescriptor s (Attached at fd part) = IsSome (descriptor_at s at.process fd)
 HasRightDescriptor s (Mapped at fd count) = IsSome (descriptor_at s at.process fd)
 HasRightDescriptor s (Access at piece fd file index block range wrote way bytes) = IsSome (descriptor_at s at.process fd)
+-- nothing is said of an entry that no call makes
+HasRightDescriptor s entry = Unit {0}
 
 -- the file is the one of the name, or of the descriptor
 abbrev pub HasRightFile : Store → Call → Entry → Type 0
@@ -119,7 +119,7 @@ HasRights s (Mapped at fd count) =
     IfSome (descriptor_at s at.process fd) (λ d. (count ≡ length d.attached) × (next_part s d ≡ None))
 HasRights s (Access at piece fd file index block range wrote way bytes) =
     IfSome (descriptor_at s at.process fd) (λ d. has_part (index / PART_BLOCKS) d.attached ≡ true)
-HasRights s (Opened at file fd mode how) = Unit {0}
+HasRights s entry = Unit {0}
 
 -- no right is given on a file of which a plain descriptor is open
 abbrev pub HasNoPlain : Store → Entry → Type 0

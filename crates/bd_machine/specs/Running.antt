@@ -8,12 +8,12 @@ use Rattle.bd_base.specs.declared.script.Mode.TheVariants.{R}
 use Rattle.bd_base.specs.declared.script.Script.{Script}
 use Rattle.bd_base.specs.declared.volume.Inode.{Inode}
 use Rattle.bd_base.specs.declared.volume.Volume.{Volume}
+use Rattle.bd_base.specs.declared.journal.At.{At}
+use Rattle.bd_base.specs.declared.journal.Way.TheVariants as ways
 use Rattle.bd_base.specs.Files.{limit_of, parts_for}
 use Rattle.bd_base.specs.Volumes.{IsVolume}
-use Rattle.bd_machine.specs.declared.entry.At.{At}
-use Rattle.bd_machine.specs.declared.entry.Entry.{Entry}
-use Rattle.bd_machine.specs.declared.entry.Entry.TheVariants.{Access, Attached, Mapped, Opened}
-use Rattle.bd_machine.specs.declared.entry.Way.TheVariants as ways
+use Rattle.bd_entry.specs.declared.entry.Entry.{Entry}
+use Rattle.bd_entry.specs.declared.entry.Entry.TheVariants.{Access, Attached, Mapped, Opened}
 use Rattle.bd_machine.specs.declared.open_file.OpenFile.{OpenFile}
 use Rattle.bd_machine.specs.declared.run.Moved.{Moved}
 use Rattle.bd_machine.specs.declared.run.Run.{Run}

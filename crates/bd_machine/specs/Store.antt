@@ -13,8 +13,8 @@ use Rattle.bd_base.specs.declared.script.Script.{Script}
 use Rattle.bd_base.specs.Files.{limit_of, parts_for}
 use Rattle.bd_base.specs.Inodes.{blocks_at, inode_at}
 use Rattle.bd_base.specs.Volumes.{IsSoundVolume}
-use Rattle.bd_machine.specs.declared.entry.Entry.{Entry}
-use Rattle.bd_machine.specs.declared.entry.Entry.TheVariants.{Attached}
+use Rattle.bd_entry.specs.declared.entry.Entry.{Entry}
+use Rattle.bd_entry.specs.declared.entry.Entry.TheVariants.{Attached}
 
 -- an open descriptor: its file, how it reaches it, which parts of the file it has rights on, which of these are cleared, and the sizes that the process knows and was told
 pub record Descriptor : Type 0 where

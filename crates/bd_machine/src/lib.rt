@@ -2,7 +2,6 @@
 #![tactic(auto)]
 
 mod disk;
-mod entry;
 mod error;
 mod files;
 pub mod laws;
@@ -16,7 +15,6 @@ mod simple_script;
 mod tests;
 mod turn;
 
-pub use entry::{At, Entry, EntryList, Way};
 pub use error::ScriptError;
 pub use machine::Machine;
 pub use rounds::replay;

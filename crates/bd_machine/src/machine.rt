@@ -11,11 +11,11 @@ ghost use Rattle.bd_machine.specs.Simple.{IsSimple};
 ghost use Rattle.bd_machine.specs.Store.{volume_in};
 
 use crate::disk::Disk;
-use crate::entry::{Entry, EntryList};
 use crate::processor::{call_count, take_turn};
 use crate::run::Run;
 use crate::turn::{Event, EventList, Turn};
 use bd_base::{Actor, List, OutOfMemory, Script, Volume};
+use bd_entry::{Entry, EntryList};
 use std::alloc::Global;
 use std::marker::Model;
 

@@ -1,13 +1,15 @@
 //! What changes as a machine takes turns, and the change of each effective turn.
 ghost use Rattle.std.specs.Prelude.{◌≡◌, ◌+◌, ◌-◌, ◌*◌, ◌^◌, ◌<◌, ◌≤◌, [], ◌∷◌, ◌++◌, None, Some, OnOk, OnErr, length, slice_range, slice_index, false};
-ghost use Rattle.bd_machine.specs.declared.entry.Entry.TheVariants.{Access, Attached, Mapped, Opened};
-ghost use Rattle.bd_machine.specs.declared.entry.Way.TheVariants as ways;
+ghost use Rattle.bd_base.specs.declared.journal.Way.TheVariants as ways;
+ghost use Rattle.bd_entry.specs.declared.entry.Entry.TheVariants.{Access, Attached, Mapped, Opened};
 ghost use Rattle.bd_machine.specs.declared.turn.Row.TheVariants as rows;
 
-use crate::entry::{At, Entry, EntryList, Way};
 use crate::open_file::OpenFile;
 use crate::turn::{Event, EventList, Row};
-use bd_base::{Actor, BlockNo, Bytes, Fd, FileId, How, Mode, OutOfMemory, PARTS, Part, Pid, Range};
+use bd_base::{
+    Actor, At, BlockNo, Bytes, Fd, FileId, How, Mode, OutOfMemory, PARTS, Part, Pid, Range, Way,
+};
+use bd_entry::{Entry, EntryList};
 
 /// The part of a machine that changes.
 #[derive(Debug, Drop)]

@@ -7,11 +7,11 @@ use Rattle.bd_base.specs.declared.script.Call.{Call}
 use Rattle.bd_base.specs.declared.script.Call.TheVariants.{Enter, Read}
 use Rattle.bd_base.specs.declared.script.Process.{Process}
 use Rattle.bd_base.specs.declared.script.Script.{Script}
+use Rattle.bd_base.specs.declared.journal.Way.TheVariants.{Direct}
 use Rattle.bd_base.specs.Pieces.{Piece, pieces}
 use Rattle.bd_blocks.specs.Runs.{runs_text}
-use Rattle.bd_machine.specs.declared.entry.Entry.{Entry}
-use Rattle.bd_machine.specs.declared.entry.Entry.TheVariants.{Access, Mapped}
-use Rattle.bd_machine.specs.declared.entry.Way.TheVariants.{Direct}
+use Rattle.bd_entry.specs.declared.entry.Entry.{Entry}
+use Rattle.bd_entry.specs.declared.entry.Entry.TheVariants.{Access, Mapped}
 use Rattle.bd_machine.specs.Calls.{entries_of}
 
 -- the reply of an open that ended: its descriptor, and how many parts are attached

@@ -3,9 +3,9 @@ use Rattle.std.specs.Prelude.{◌≡◌, ℕ, List, [], Some}
 use Rattle.bd_base.specs.declared.limits.TheConstants.{IMAGE_SIZE, SCRIPT_SIZE}
 use Rattle.bd_base.specs.declared.script.Script.{Script}
 use Rattle.bd_base.specs.declared.volume.Volume.{Volume}
+use Rattle.bd_entry.specs.declared.entry.Entry.{Entry}
 use Rattle.bd_image.specs.Rules.{Accepted, Broken}
 use Rattle.bd_image.specs.Volumes.{AcceptedVolume, image_of, volume_of}
-use Rattle.bd_machine.specs.declared.entry.Entry.{Entry}
 use Rattle.bd_machine.specs.declared.turn.Event.{Event}
 use Rattle.bd_machine.specs.Course.{IsCourse, visible}
 use Rattle.bd_machine.specs.History.{InOrder, Legal}

@@ -12,9 +12,10 @@ use crate::inputs::{read_image, read_script};
 use crate::report::report;
 use crate::status::{Outcome, Status, To, without_run};
 use bd_base::{Bytes, OutOfMemory, Script, Volume};
+use bd_entry::EntryList;
 use bd_image::{one_refusal, refused_is_not_accepted, render, sound_volumes};
 use bd_machine::laws::histories_keep_valid;
-use bd_machine::{EntryList, EventList, replay};
+use bd_machine::{EventList, replay};
 use bd_outside::{Sink, Source, WriteError, write_all};
 use std::alloc::Global;
 

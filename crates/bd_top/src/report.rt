@@ -7,9 +7,9 @@ ghost use Rattle.bd_machine.specs.Simple.{Wish, simple_script};
 ghost use Rattle.bd_top.specs.Report.{is_direct_access, is_kernel_access, open_reply, piece_bytes, read_reply, report_text, total_line};
 
 use crate::text::{push, push_number};
-use bd_base::{Bytes, List, OutOfMemory, Pid};
+use bd_base::{At, Bytes, List, OutOfMemory, Pid, Way};
 use bd_blocks::runs;
-use bd_machine::{At, Entry, Way};
+use bd_entry::Entry;
 use std::alloc::Global;
 
 /// Whether the entry is of this call of the first process.
@@ -18,9 +18,20 @@ fn is_of_call(entry: &Entry, call: u16) -> bool
 {
     let at = match entry {
         Entry::Opened { at, .. } => at,
+        Entry::Created { at, .. } => at,
         Entry::Attached { at, .. } => at,
         Entry::Mapped { at, .. } => at,
+        Entry::Cleared { at, .. } => at,
+        Entry::Detached { at, .. } => at,
         Entry::Access { at, .. } => at,
+        Entry::Missed { at, .. } => at,
+        Entry::Extended { at, .. } => at,
+        Entry::Released { at, .. } => at,
+        Entry::Sized { at, .. } => at,
+        Entry::SizeRead { at, .. } => at,
+        Entry::Closed { at, .. } => at,
+        Entry::Unlinked { at, .. } => at,
+        Entry::Refused { at, .. } => at,
     };
     at.process.get() == 0 && at.call == call
 }

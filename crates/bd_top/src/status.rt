@@ -4,7 +4,8 @@ ghost use Rattle.bd_top.specs.Status.{bad_image_text, bad_script_text, code_of, 
 
 use crate::text::{push, push_number};
 use bd_base::{Bytes, List, OutOfMemory};
-use bd_machine::{EntryList, EventList};
+use bd_entry::EntryList;
+use bd_machine::EventList;
 use std::alloc::Global;
 
 /// A source that a command reads.

@@ -4,8 +4,9 @@ ghost use Rattle.bd_base.specs.Inodes.{AreValidFiles};
 ghost use Rattle.bd_base.specs.Volumes.{IsVolume};
 
 use super::volumes::{add_file, no_files, one_file, volume_of};
-use crate::{Entry, Event, Machine, Row, Turn, Way, read_simple, replay};
-use bd_base::{Actor, How, Mode, Volume};
+use crate::{Event, Machine, Row, Turn, read_simple, replay};
+use bd_base::{Actor, How, Mode, Volume, Way};
+use bd_entry::Entry;
 use std::alloc::Global;
 use std::process::Abort;
 use std::test::Fail;

@@ -1,8 +1,9 @@
 //! Runs with all that they leave.
 use super::{REPORT, SCRIPT, SURE, bytes, first_image, has_run, replayed};
 use crate::{Status, replay_all};
-use bd_base::{Actor, How, List, Mode};
-use bd_machine::{At, Entry, Event, Row, Way};
+use bd_base::{Actor, At, How, List, Mode, Way};
+use bd_entry::Entry;
+use bd_machine::{Event, Row};
 use bd_outside::{SureSink, SureSource};
 use std::process::Abort;
 use std::test::Fail;

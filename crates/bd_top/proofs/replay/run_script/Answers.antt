@@ -1,8 +1,8 @@
 use Rattle.std.proofs.Common.{◌≡◌, List, refl, sym, ap, ◌∙◌, subst}
 use Rattle.bd_base.specs.declared.script.Script.{Script}
 use Rattle.bd_base.specs.declared.volume.Volume.{Volume}
+use Rattle.bd_entry.specs.declared.entry.Entry.{Entry}
 use Rattle.bd_image.specs.Volumes.{image_of}
-use Rattle.bd_machine.specs.declared.entry.Entry.{Entry}
 use Rattle.bd_machine.specs.declared.turn.Event.{Event}
 use Rattle.bd_machine.specs.Course.{IsCourse, visible}
 use Rattle.bd_machine.specs.History.{InOrder, Legal}
