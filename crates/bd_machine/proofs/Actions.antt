@@ -14,14 +14,14 @@ use Rattle.bd_base.specs.declared.script.How.TheVariants as hows
 use Rattle.bd_base.specs.declared.script.Mode.TheVariants.{R}
 use Rattle.bd_base.specs.declared.volume.Volume.{Volume}
 use Rattle.bd_base.specs.Volumes.{IsInode}
+use Rattle.bd_entry.specs.Calls.{is_mapped}
+use Rattle.bd_entry.specs.Store.{distinct_pairs, has_fragment, has_plain}
+use Rattle.bd_entry.proofs.Parts.{distinct_fewer, lowest, none_lowest, one_piece, part_inside, with_next_part}
 use Rattle.bd_machine.specs.declared.run.Run.{Run}
 use Rattle.bd_machine.specs.declared.turn.Row.TheVariants as rows
-use Rattle.bd_machine.specs.Calls.{is_mapped}
 use Rattle.bd_machine.specs.Machine.{State, next_action, state_after}
 use Rattle.bd_machine.specs.Running.{Phase, Before, Attaching, Reading, Over, access_entry, attached_entry, ended_at, journal_at, mapped_entry, open_at, part_total, state_of, opened_entry, used_at}
 use Rattle.bd_machine.specs.Simple.{Grants, Wish, simple_script}
-use Rattle.bd_machine.specs.Store.{distinct_pairs, has_fragment, has_plain}
-use Rattle.bd_machine.proofs.Parts.{distinct_fewer, lowest, none_lowest, one_piece, part_inside, with_next_part}
 
 module _ {v : Volume} {w : Wish} (g : Grants v w) where
   -- what a machine keeps at a phase, but for the trace

@@ -2,11 +2,11 @@
 use Rattle.std.proofs.Common.{◌≡◌, ◌<◌, ◌^◌, ℕ, ap, sym, ◌∙◌, arith, ⊎_elim}
 use Rattle.std.proofs.lemmas.Bool.{both_ways, cases_order}
 use Rattle.bd_base.specs.declared.script.Script.{Script}
+use Rattle.bd_entry.specs.Store.{Store}
 use Rattle.bd_machine.specs.Course.{EndsAt, events_to, state_at}
 use Rattle.bd_machine.specs.Laws.{HasOneCourse, IsOfOneScript}
 use Rattle.bd_machine.specs.Machine.{all_ended}
 use Rattle.bd_machine.specs.Simple.{simple_script}
-use Rattle.bd_machine.specs.Store.{Store}
 use Rattle.bd_machine.proofs.Wishes.{unique_wish}
 
 -- a run does not end twice

@@ -21,10 +21,10 @@ use Rattle.std.proofs.lemmas.Option.{same_Some}
 use Rattle.std.proofs.lemmas.List.FromFn.{map-range_with_len_more}
 use Rattle.bd_entry.specs.declared.entry.Entry.{Entry}
 use Rattle.bd_entry.specs.declared.entry.Entry.TheVariants.{Attached, Mapped, Opened}
-use Rattle.bd_machine.specs.Calls.{calls_of}
+use Rattle.bd_entry.specs.Calls.{calls_of}
+use Rattle.bd_entry.specs.Store.{start_store}
 use Rattle.bd_machine.specs.Running.{FollowsTrace, IsAt, IsReached, Phase, Before, Attaching, Reading, Over, Turned, attached_entry, journal_at, mapped_entry, opened_entry, part_total, state_of}
 use Rattle.bd_machine.specs.Simple.{Grants, Wish, simple_script}
-use Rattle.bd_machine.specs.Store.{start_store}
 use Rattle.bd_machine.proofs.Actions.{action-Before, action-attach, action-mapped, after-Before, after-attach, after-mapped}
 use Rattle.bd_machine.proofs.Turning.{turned}
 use Rattle.bd_machine.proofs.Volumes.{sound_inode}

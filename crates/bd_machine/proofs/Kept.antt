@@ -5,13 +5,13 @@ use Rattle.std.proofs.Common.{◌≡◌, ℕ, ◌&&◌, Bool, true, false, List,
 use Rattle.bd_base.specs.declared.script.Script.{Script}
 use Rattle.bd_base.specs.declared.volume.Volume.{Volume}
 use Rattle.bd_entry.specs.declared.entry.Entry.{Entry}
+use Rattle.bd_entry.specs.Calls.{calls_of}
+use Rattle.bd_entry.specs.History.{InOrder, InOrderSoFar, Legal}
+use Rattle.bd_entry.specs.Store.{start_store}
 use Rattle.bd_machine.specs.declared.run.Run.{Run}
-use Rattle.bd_machine.specs.Calls.{calls_of}
-use Rattle.bd_machine.specs.History.{InOrder, InOrderSoFar, Legal}
 use Rattle.bd_machine.specs.Machine.{SomeActorActs, State, all_ended}
 use Rattle.bd_machine.specs.Running.{IsAt, IsHistory, IsPhase, IsReached, Phase, Before, Attaching, Reading, Over, journal_at, state_of}
 use Rattle.bd_machine.specs.Simple.{Grants, Wish, simple_script}
-use Rattle.bd_machine.specs.Store.{start_store}
 use Rattle.bd_machine.proofs.Actions.{at_phase}
 use Rattle.bd_machine.proofs.Entering.{few_parts, sound_file}
 use Rattle.bd_machine.proofs.Legality.{in_order_at, in_order_over, legal_at}

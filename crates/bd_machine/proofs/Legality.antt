@@ -12,16 +12,16 @@ use Rattle.bd_base.specs.declared.volume.Volume.{Volume}
 use Rattle.bd_base.specs.Files.{limit_of}
 use Rattle.bd_base.specs.Volumes.{IsInode}
 use Rattle.bd_entry.specs.declared.entry.Entry.{Entry}
-use Rattle.bd_machine.specs.Calls.{calls_of, entries_of, is_finished}
-use Rattle.bd_machine.specs.History.{InOrder, InOrderSoFar, Legal, Step}
+use Rattle.bd_entry.specs.Calls.{calls_of, entries_of, is_finished}
+use Rattle.bd_entry.specs.History.{InOrder, InOrderSoFar, Legal, Step}
+use Rattle.bd_entry.specs.Rules.{EntryRule, NextCall, FitsCall, Once, RightWay, IsOpen, RightFile, Allowed, Rights, NoPlain, RightBlock, WithinLimit, RightBytes, NotRefused, FitsScript, FitsStore}
+use Rattle.bd_entry.specs.Store.{start_store}
+use Rattle.bd_entry.proofs.Histories.{InOrderFrom-push, Legal-push}
+use Rattle.bd_entry.proofs.Parts.{lowest, none_lowest, one_piece, part_inside}
 use Rattle.bd_machine.specs.Machine.{State}
-use Rattle.bd_machine.specs.Rules.{EntryRule, NextCall, FitsCall, Once, RightWay, IsOpen, RightFile, Allowed, Rights, NoPlain, RightBlock, WithinLimit, RightBytes, NotRefused, FitsScript, FitsStore}
 use Rattle.bd_machine.specs.Running.{Phase, Before, Attaching, Reading, Over, IsPhase, access_entry, attached_entry, call_number, journal_at, mapped_entry, opened_entry, part_total}
 use Rattle.bd_machine.specs.Simple.{Grants, Wish, simple_script}
-use Rattle.bd_machine.specs.Store.{start_store}
 use Rattle.bd_machine.proofs.Actions.{after-Before, after-attach, after-mapped, after-move, at_phase, has_block, no_plain, none_mapped, is_ended, room}
-use Rattle.bd_machine.proofs.Histories.{InOrderFrom-push, Legal-push}
-use Rattle.bd_machine.proofs.Parts.{lowest, none_lowest, one_piece, part_inside}
 
 module _ {v : Volume} {w : Wish} (g : Grants v w) where
   abbrev enter : Call

@@ -1,6 +1,4 @@
-pub mod Parts
 pub mod Actions
-pub mod Histories
 pub mod Legality
 pub mod Turning
 pub mod Entering
@@ -14,11 +12,5 @@ pub mod Numbers
 pub mod Fields
 pub mod Wishes
 pub mod JournalLaws
-pub mod RuleLaws
-pub mod Slots
-pub mod Descriptors
 pub mod Determined
-pub mod StoreLaws
 pub mod Volumes
-pub mod CallOrder
-pub mod HistoryLaws

@@ -7,12 +7,12 @@ use Rattle.bd_base.specs.declared.script.Script.{Script}
 use Rattle.bd_base.specs.declared.volume.Volume.{Volume}
 use Rattle.bd_base.specs.declared.journal.Way.TheVariants as ways
 use Rattle.bd_entry.specs.declared.entry.Entry.TheVariants.{Access}
+use Rattle.bd_entry.specs.Calls.{calls_of}
 use Rattle.bd_machine.specs.declared.open_file.OpenFile.{OpenFile}
 use Rattle.bd_machine.specs.declared.run.Moved.{Moved}
 use Rattle.bd_machine.specs.declared.run.Run.{Run}
 use Rattle.bd_machine.specs.declared.turn.Row.TheVariants as rows
 use Rattle.bd_machine.specs.declared.turn.Turn.TheVariants.{Did, Idle}
-use Rattle.bd_machine.specs.Calls.{calls_of}
 use Rattle.bd_machine.specs.Machine.{State, next_action}
 use Rattle.bd_machine.specs.Running.{IsAt, IsReached, Phase, Before, Attaching, Reading, Over, Turned, access_entry, moved_of, state_of}
 use Rattle.bd_machine.specs.Simple.{Grants, Wish, simple_script}

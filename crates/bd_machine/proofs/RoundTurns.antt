@@ -5,13 +5,13 @@ use Rattle.std.proofs.Common.{min, ◌≡◌, ◌⊎◌, ℕ, suc, ◌+◌, ◌-
 use Rattle.std.proofs.lemmas.Bool.{cases_lt, le-ltb}
 use Rattle.std.proofs.Math.Nat.{add-mul-mod_self_right, mod-eq_of_lt}
 use Rattle.bd_base.specs.declared.script.Script.{Script}
+use Rattle.bd_entry.specs.Store.{Store, start_store}
 use Rattle.bd_machine.specs.declared.turn.Event.{Event}
 use Rattle.bd_machine.specs.declared.turn.Turn.{Turn}
 use Rattle.bd_machine.specs.declared.turn.Turn.TheVariants.{Did, Idle}
 use Rattle.bd_machine.specs.Course.{IsOnCourse, actor_at, actor_count, event_at, events_to, scheduled, state_at}
 use Rattle.bd_machine.specs.Machine.{Action, LowersRest, State, action_of, after_turn, all_ended, answer_of, rest_of, state_after}
 use Rattle.bd_machine.specs.Running.{EndsRound, IsCourseSoFar, IsRoundStart, Progress, event_of, stepped}
-use Rattle.bd_machine.specs.Store.{Store, start_store}
 
 -- the events of an answer are those of its action
 events_same : (n actor : ℕ) (act : Option Action) →

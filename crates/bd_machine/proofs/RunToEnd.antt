@@ -2,11 +2,11 @@
 use Rattle.std.proofs.Common.{◌≡◌, ℕ, ◌+◌, ◌*◌, ◌≤◌, true, false, [], refl, sym, ap, ◌∙◌, subst, arith, length}
 use Rattle.bd_base.specs.declared.script.Script.{Script}
 use Rattle.bd_base.specs.declared.volume.Volume.{Volume}
+use Rattle.bd_entry.specs.Store.{start_store}
 use Rattle.bd_machine.specs.Course.{IsCourse, IsOnCourse, actor_count, scheduled}
 use Rattle.bd_machine.specs.Machine.{SomeActorActs, all_ended, boot_state, rest_of}
 use Rattle.bd_machine.specs.Running.{EndsRound, IsCourseSoFar, IsRoundStart, Progress, booted}
 use Rattle.bd_machine.specs.Simple.{IsSimple}
-use Rattle.bd_machine.specs.Store.{start_store}
 
 -- between two rounds: the turns so far are whole rounds unless all calls have ended, and they number no more than the rest that was used up allows
 pub record IsBetweenRounds (v : Volume) (script : Script) (actors : ℕ) (m : Progress) : Type 0 where

@@ -7,6 +7,7 @@ use Rattle.bd_base.specs.declared.script.Script.{Script}
 use Rattle.bd_base.specs.declared.volume.Volume.{Volume}
 use Rattle.bd_base.specs.Volumes.{IsVolume}
 use Rattle.bd_entry.specs.declared.entry.Entry.{Entry}
+use Rattle.bd_entry.specs.Store.{start_store}
 use Rattle.bd_machine.specs.declared.run.Run.{Run}
 use Rattle.bd_machine.specs.declared.turn.Event.{Event}
 use Rattle.bd_machine.specs.declared.turn.Turn.TheVariants.{Did, Idle}
@@ -14,9 +15,8 @@ use Rattle.bd_machine.specs.Course.{after_events, visible}
 use Rattle.bd_machine.specs.Machine.{Action, State, action_of, after_turn, answer_of, boot_state, next_action, state_after, visible_of}
 use Rattle.bd_machine.specs.Running.{FollowsTrace, IsAt, IsReached, Phase, Turned, state_of}
 use Rattle.bd_machine.specs.Simple.{Grants, Wish, simple_script}
-use Rattle.bd_machine.specs.Store.{start_store}
 use Rattle.bd_machine.proofs.Actions.{at_phase}
-use Rattle.bd_machine.proofs.Histories.{after_events-push, visible-push}
+use Rattle.bd_machine.proofs.JournalLaws.{after_events-push, visible-push}
 
 -- what a machine keeps at a phase stands for the phase's state
 pub state_at : {v : Volume} {w : Wish} (g : Grants v w) (phase : Phase) (run : Run) → IsAt g phase run → state_of v (simple_script w) run ≡ at_phase g phase

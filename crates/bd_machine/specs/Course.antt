@@ -6,9 +6,9 @@ use Rattle.bd_base.specs.declared.script.Item.{Item}
 use Rattle.bd_base.specs.declared.script.ScheduleLine.{ScheduleLine}
 use Rattle.bd_base.specs.declared.script.Script.{Script}
 use Rattle.bd_entry.specs.declared.entry.Entry.{Entry}
+use Rattle.bd_entry.specs.Store.{Store}
 use Rattle.bd_machine.specs.declared.turn.Event.{Event}
 use Rattle.bd_machine.specs.Machine.{Action, State, action_of, after_turn, all_ended, boot_state, visible_of}
-use Rattle.bd_machine.specs.Store.{Store}
 
 -- the entries that the turns of these events add, from this state on
 abbrev pub visible : State → List Event → List Entry

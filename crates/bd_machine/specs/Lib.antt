@@ -1,8 +1,4 @@
--- The plain store of files, the legality of a journal, and the abstract machine.
-pub mod Store
-pub mod Calls
-pub mod Rules
-pub mod History
+-- The abstract machine, its runs, and the scripts that are read.
 pub mod Machine
 pub mod Course
 pub mod Simple

@@ -17,14 +17,14 @@ use Rattle.bd_base.specs.Pieces.{Piece, pieces}
 use Rattle.bd_base.specs.Policy.{open_denial}
 use Rattle.bd_entry.specs.declared.entry.Entry.{Entry}
 use Rattle.bd_entry.specs.declared.entry.Entry.TheVariants.{Access, Attached, Mapped, Opened}
+use Rattle.bd_entry.specs.Calls.{calls_of, is_access_of, is_ended_by, opened_fd}
+use Rattle.bd_entry.specs.History.{effect_of}
+use Rattle.bd_entry.specs.Rules.{bytes_within}
+use Rattle.bd_entry.specs.Store.{Descriptor, Store, blocks_in, descriptor_at, file_at, has_part, limit_at, lowest_fd, next_part, work_of}
 use Rattle.bd_machine.specs.declared.turn.Row.{Row}
 use Rattle.bd_machine.specs.declared.turn.Row.TheVariants as rows
 use Rattle.bd_machine.specs.declared.turn.Turn.{Turn}
 use Rattle.bd_machine.specs.declared.turn.Turn.TheVariants.{Did, Idle}
-use Rattle.bd_machine.specs.Calls.{calls_of, is_access_of, is_ended_by, opened_fd}
-use Rattle.bd_machine.specs.History.{effect_of}
-use Rattle.bd_machine.specs.Rules.{bytes_within}
-use Rattle.bd_machine.specs.Store.{Descriptor, Store, blocks_in, descriptor_at, file_at, has_part, limit_at, lowest_fd, next_part, work_of}
 
 -- a state: the script, the plain store, the journal so far, and for each process how many of its calls have ended and how many effective turns its running call has used
 pub record State : Type 0 where

@@ -14,6 +14,9 @@ use Rattle.bd_base.specs.Files.{limit_of, parts_for}
 use Rattle.bd_base.specs.Volumes.{IsVolume}
 use Rattle.bd_entry.specs.declared.entry.Entry.{Entry}
 use Rattle.bd_entry.specs.declared.entry.Entry.TheVariants.{Access, Attached, Mapped, Opened}
+use Rattle.bd_entry.specs.History.{InOrderSoFar, Legal}
+use Rattle.bd_entry.specs.Rules.{bytes_within}
+use Rattle.bd_entry.specs.Store.{Descriptor, Store, start_store}
 use Rattle.bd_machine.specs.declared.open_file.OpenFile.{OpenFile}
 use Rattle.bd_machine.specs.declared.run.Moved.{Moved}
 use Rattle.bd_machine.specs.declared.run.Run.{Run}
@@ -22,10 +25,7 @@ use Rattle.bd_machine.specs.declared.turn.Turn.{Turn}
 use Rattle.bd_machine.specs.declared.turn.Turn.TheVariants.{Did, Idle}
 use Rattle.bd_machine.specs.Course.{IsOnCourse, actor_count, after_events, scheduled, visible}
 use Rattle.bd_machine.specs.Machine.{SomeActorActs, State, after_turn, all_ended, answer_of, boot_state, rest_of}
-use Rattle.bd_machine.specs.History.{InOrderSoFar, Legal}
-use Rattle.bd_machine.specs.Rules.{bytes_within}
 use Rattle.bd_machine.specs.Simple.{Grants, Wish, simple_script}
-use Rattle.bd_machine.specs.Store.{Descriptor, Store, start_store}
 
 -- the descriptor of an open file: the parts below the number attached are attached
 abbrev pub descriptor_of : OpenFile → Descriptor

@@ -3,12 +3,12 @@ ghost use Rattle.std.specs.Prelude.{◌≡◌, ◌+◌, ◌<◌, ◌≤◌, ◌�
 ghost use Rattle.std.specs.Bool.{OnFalse, OnTrue};
 ghost use Rattle.bd_base.specs.Inodes.{AreValidFiles};
 ghost use Rattle.bd_base.specs.Volumes.{IsVolume};
+ghost use Rattle.bd_entry.specs.History.{InOrder};
+ghost use Rattle.bd_entry.specs.Store.{volume_in};
 ghost use Rattle.bd_machine.specs.Course.{actor_count};
-ghost use Rattle.bd_machine.specs.History.{InOrder};
 ghost use Rattle.bd_machine.specs.Machine.{LowersRest, SomeActorActs, all_ended, answer_of};
 ghost use Rattle.bd_machine.specs.Running.{IsHistory, booted, stepped};
 ghost use Rattle.bd_machine.specs.Simple.{IsSimple};
-ghost use Rattle.bd_machine.specs.Store.{volume_in};
 
 use crate::disk::Disk;
 use crate::processor::{call_count, take_turn};

@@ -5,8 +5,8 @@ ghost use Rattle.bd_base.specs.declared.volume.Inode.{Inode};
 ghost use Rattle.bd_base.specs.Files.{limit_of, parts_for};
 ghost use Rattle.bd_base.specs.Inodes.{id_of, inode_at};
 ghost use Rattle.bd_base.specs.Volumes.{IsInode, IsVolume};
-ghost use Rattle.bd_machine.specs.Calls.{calls_of};
-ghost use Rattle.bd_machine.specs.Rules.{bytes_within};
+ghost use Rattle.bd_entry.specs.Calls.{calls_of};
+ghost use Rattle.bd_entry.specs.Rules.{bytes_within};
 ghost use Rattle.bd_machine.specs.Running.{IsReached, Turned, moved_of};
 
 use crate::disk::Disk;

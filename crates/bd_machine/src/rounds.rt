@@ -3,12 +3,12 @@ ghost use Rattle.std.specs.Prelude.{◌≡◌, ◌+◌, ◌-◌, ◌*◌, ◌<�
 ghost use Rattle.bd_base.specs.declared.limits.TheConstants.{ACTORS};
 ghost use Rattle.bd_base.specs.Inodes.{AreValidFiles};
 ghost use Rattle.bd_base.specs.Volumes.{IsVolume};
+ghost use Rattle.bd_entry.specs.History.{InOrder};
+ghost use Rattle.bd_entry.specs.Store.{start_store};
 ghost use Rattle.bd_machine.specs.Course.{IsCourse, actor_count};
-ghost use Rattle.bd_machine.specs.History.{InOrder};
 ghost use Rattle.bd_machine.specs.Machine.{SomeActorActs, all_ended, rest_of};
 ghost use Rattle.bd_machine.specs.Running.{EndsRound, IsHistory, IsRoundStart};
 ghost use Rattle.bd_machine.specs.Simple.{IsSimple};
-ghost use Rattle.bd_machine.specs.Store.{start_store};
 
 use crate::machine::Machine;
 use bd_base::{Actor, OutOfMemory, Script, Volume};

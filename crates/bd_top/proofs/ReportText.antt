@@ -6,7 +6,7 @@ use Rattle.std.proofs.lemmas.Fmt.{decimal_digit}
 use Rattle.std.proofs.Math.Nat.{div-eq_of_lt}
 use Rattle.bd_base.specs.Pieces.{pieces}
 use Rattle.bd_entry.specs.declared.entry.Entry.{Entry}
-use Rattle.bd_machine.specs.Calls.{entries_of}
+use Rattle.bd_entry.specs.Calls.{entries_of}
 use Rattle.bd_machine.specs.Simple.{Wish, simple_script}
 use Rattle.bd_top.specs.Report.{gathered, open_reply, piece_bytes, read_reply, report_text, total_line}
 

@@ -12,7 +12,7 @@ use Rattle.bd_base.specs.Pieces.{Piece, pieces}
 use Rattle.bd_blocks.specs.Runs.{runs_text}
 use Rattle.bd_entry.specs.declared.entry.Entry.{Entry}
 use Rattle.bd_entry.specs.declared.entry.Entry.TheVariants.{Access, Mapped}
-use Rattle.bd_machine.specs.Calls.{entries_of}
+use Rattle.bd_entry.specs.Calls.{entries_of}
 
 -- the reply of an open that ended: its descriptor, and how many parts are attached
 abbrev pub open_reply : List Entry → List ℕ
@@ -67,7 +67,7 @@ is_kernel_access (Access at piece fd file index block range wrote Direct bytes) 
 is_kernel_access (Access at piece fd file index block range wrote way bytes) = true
 is_kernel_access entry = false
 
--- the last line; no entry tells a miss or a detached right
+-- the last line; no call makes an entry that tells a miss or a detached right
 abbrev pub total_line : List Entry → List ℕ
 total_line journal =
     codes "total direct " ++ decimal (count_by is_direct_access journal) ++ codes " kernel " ++ decimal (count_by is_kernel_access journal)

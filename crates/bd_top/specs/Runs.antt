@@ -4,15 +4,15 @@ use Rattle.bd_base.specs.declared.limits.TheConstants.{IMAGE_SIZE, SCRIPT_SIZE}
 use Rattle.bd_base.specs.declared.script.Script.{Script}
 use Rattle.bd_base.specs.declared.volume.Volume.{Volume}
 use Rattle.bd_entry.specs.declared.entry.Entry.{Entry}
+use Rattle.bd_entry.specs.History.{InOrder, Legal}
+use Rattle.bd_entry.specs.Store.{Store, start_store, volume_in}
 use Rattle.bd_image.specs.Rules.{Accepted, Broken}
 use Rattle.bd_image.specs.Volumes.{AcceptedVolume, image_of, volume_of}
 use Rattle.bd_machine.specs.declared.turn.Event.{Event}
 use Rattle.bd_machine.specs.Course.{IsCourse, visible}
-use Rattle.bd_machine.specs.History.{InOrder, Legal}
 use Rattle.bd_machine.specs.Machine.{State, boot_state}
 use Rattle.bd_machine.specs.Refusals.{IsNotSimple}
 use Rattle.bd_machine.specs.Simple.{IsSimple, IsSimpleText}
-use Rattle.bd_machine.specs.Store.{Store, start_store, volume_in}
 use Rattle.bd_top.specs.Outside.{ForTold, ReadWithin, Reading}
 use Rattle.bd_top.specs.Report.{report_text}
 

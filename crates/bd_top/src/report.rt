@@ -2,7 +2,7 @@
 ghost use Rattle.std.specs.Prelude.{◌≤◌, ◌≡◌, ℕ, ◌+◌, ◌<◌, ◌^◌, [], ◌∷◌, ◌++◌, None, Some, IfOk, OnOk, length, MatchOption, count_by, codes};
 ghost use Rattle.bd_base.specs.declared.limits.TheConstants.{BLOCK_SIZE};
 ghost use Rattle.std.specs.Fmt.{decimal};
-ghost use Rattle.bd_machine.specs.Calls.{at_of, entries_of, same_call};
+ghost use Rattle.bd_entry.specs.Calls.{at_of, entries_of, same_call};
 ghost use Rattle.bd_machine.specs.Simple.{Wish, simple_script};
 ghost use Rattle.bd_top.specs.Report.{is_direct_access, is_kernel_access, open_reply, piece_bytes, read_reply, report_text, total_line};
 

@@ -4,10 +4,10 @@ use Rattle.bd_base.specs.declared.script.Call.{Call}
 use Rattle.bd_base.specs.declared.script.Call.TheVariants.{Enter}
 use Rattle.bd_base.specs.Files.{parts_for}
 use Rattle.bd_base.specs.Inodes.{id_of}
+use Rattle.bd_entry.specs.Calls.{calls_of}
 use Rattle.bd_machine.specs.declared.run.Run.{Run}
 use Rattle.bd_machine.specs.declared.turn.Turn.TheVariants.{Did}
 use Rattle.bd_machine.specs.declared.turn.Row.TheVariants as rows
-use Rattle.bd_machine.specs.Calls.{calls_of}
 use Rattle.bd_machine.specs.Running.{Turned}
 use Rattle.bd_machine.proofs.Entering.{attached-turn, mapped-turn, is_there, opened-turn}
 use Rattle.bd_machine.proofs.processor.enter_turn.Goals as goal

@@ -4,11 +4,11 @@ use Rattle.std.proofs.lemmas.Option.{same_Some}
 use Rattle.bd_base.specs.declared.script.Call.{Call}
 use Rattle.bd_base.specs.declared.script.Call.TheVariants.{Read}
 use Rattle.bd_base.specs.Inodes.{inode_at}
+use Rattle.bd_entry.specs.Calls.{calls_of}
 use Rattle.bd_machine.specs.declared.run.Moved.{Moved}
 use Rattle.bd_machine.specs.declared.run.Run.{Run}
 use Rattle.bd_machine.specs.declared.turn.Turn.TheVariants.{Did}
 use Rattle.bd_machine.specs.declared.turn.Row.TheVariants as rows
-use Rattle.bd_machine.specs.Calls.{calls_of}
 use Rattle.bd_machine.specs.Running.{Turned, moved_of}
 use Rattle.bd_machine.proofs.Reading.{moved-turn, moved_run, opened_file, same_len}
 use Rattle.bd_machine.proofs.processor.read_turn.Goals as goal

@@ -2,13 +2,13 @@ use Rattle.std.proofs.Common.{◌≡◌, List, refl, sym, ap, ◌∙◌, subst}
 use Rattle.bd_base.specs.declared.script.Script.{Script}
 use Rattle.bd_base.specs.declared.volume.Volume.{Volume}
 use Rattle.bd_entry.specs.declared.entry.Entry.{Entry}
+use Rattle.bd_entry.specs.History.{InOrder, Legal}
+use Rattle.bd_entry.specs.Store.{start_store}
 use Rattle.bd_image.specs.Volumes.{image_of}
 use Rattle.bd_machine.specs.declared.turn.Event.{Event}
 use Rattle.bd_machine.specs.Course.{IsCourse, visible}
-use Rattle.bd_machine.specs.History.{InOrder, Legal}
 use Rattle.bd_machine.specs.Machine.{boot_state}
 use Rattle.bd_machine.specs.Running.{Progress}
-use Rattle.bd_machine.specs.Store.{start_store}
 use Rattle.bd_top.specs.Report.{report_text}
 use Rattle.bd_top.proofs.Reading.{volume_for_machine}
 use Rattle.bd_top.proofs.replay.run_script.Goals as goal

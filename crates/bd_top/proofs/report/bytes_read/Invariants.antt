@@ -1,5 +1,5 @@
 use Rattle.std.proofs.Common.{◌≡◌, drop}
-use Rattle.bd_machine.specs.Calls.{entries_of}
+use Rattle.bd_entry.specs.Calls.{entries_of}
 use Rattle.bd_top.specs.Report.{piece_bytes}
 use Rattle.bd_top.proofs.report.bytes_read.Given as goal
 

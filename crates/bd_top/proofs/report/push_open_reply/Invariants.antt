@@ -1,5 +1,5 @@
 use Rattle.std.proofs.Common.{◌≡◌, drop}
-use Rattle.bd_machine.specs.Calls.{entries_of}
+use Rattle.bd_entry.specs.Calls.{entries_of}
 use Rattle.bd_top.specs.Report.{open_reply}
 use Rattle.bd_top.proofs.report.push_open_reply.Given as goal
 

@@ -1,6 +1,6 @@
 use Rattle.std.specs.Prelude.{codes}
 use Rattle.std.proofs.Common.{ℕ, List, [], ◌∷◌, ◌++◌, ap, sym, ◌∙◌}
-use Rattle.bd_machine.specs.Calls.{entries_of}
+use Rattle.bd_entry.specs.Calls.{entries_of}
 use Rattle.bd_top.specs.Report.{open_reply, piece_bytes, read_reply, total_line}
 use Rattle.bd_top.proofs.Appending.{six_pieces}
 use Rattle.bd_top.proofs.ReportText.{report-pieces}

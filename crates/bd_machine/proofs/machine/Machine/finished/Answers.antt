@@ -1,8 +1,8 @@
 use Rattle.std.specs.Prelude.{nat_eq}
 use Rattle.std.specs.Bool.{OnFalse, OnTrue}
 use Rattle.std.proofs.Common.{length, subst}
-use Rattle.bd_machine.specs.Calls.{calls_of}
-use Rattle.bd_machine.specs.History.{InOrder}
+use Rattle.bd_entry.specs.Calls.{calls_of}
+use Rattle.bd_entry.specs.History.{InOrder}
 use Rattle.bd_machine.specs.Machine.{SomeActorActs}
 use Rattle.bd_machine.specs.Running.{Progress}
 use Rattle.bd_machine.proofs.Kept.{in_order_ended, never_stuck}

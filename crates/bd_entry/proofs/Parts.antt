@@ -5,7 +5,7 @@ use Rattle.std.specs.Prelude.{nat_eq, nat_lt}
 use Rattle.std.proofs.lemmas.Bool.Decides.{nat_tests}
 use Rattle.std.proofs.Math.Nat.{div-eq_of_lt}
 use Rattle.bd_base.specs.Pieces.{pieces}
-use Rattle.bd_machine.specs.Store.{distinct_pairs, has_part, same_pair, with_part}
+use Rattle.bd_entry.specs.Store.{distinct_pairs, has_part, same_pair, with_part}
 
 -- a part below the first is not in the range
 pub part_below : (p a m : ℕ) → p < a → has_part p (range_with_len a m) ≡ false

@@ -1,16 +1,13 @@
 -- Journals that grow by one entry at their end.
-use Rattle.std.proofs.Common.{◌≡◌, List, [], ◌∷◌, ◌++◌, Some, refl, sym, ap, ◌∙◌, subst, append_assoc}
+use Rattle.std.proofs.Common.{◌≡◌, List, [], ◌∷◌, ◌++◌, Some, refl, sym, subst, append_assoc}
 use Rattle.std.proofs.lemmas.List.{append-nil}
 use Rattle.bd_base.specs.declared.script.Call.{Call}
 use Rattle.bd_base.specs.declared.script.Script.{Script}
 use Rattle.bd_entry.specs.declared.entry.Entry.{Entry}
-use Rattle.bd_machine.specs.declared.turn.Event.{Event}
-use Rattle.bd_machine.specs.Calls.{at_of, call_at}
-use Rattle.bd_machine.specs.Course.{after_events, visible}
-use Rattle.bd_machine.specs.History.{InOrderFrom, Legal, Step}
-use Rattle.bd_machine.specs.Machine.{State, after_turn, visible_of}
-use Rattle.bd_machine.specs.Rules.{EntryRule, FitsScript}
-use Rattle.bd_machine.specs.Store.{Store}
+use Rattle.bd_entry.specs.Calls.{at_of, call_at}
+use Rattle.bd_entry.specs.History.{InOrderFrom, Legal, Step}
+use Rattle.bd_entry.specs.Rules.{EntryRule, FitsScript}
+use Rattle.bd_entry.specs.Store.{Store}
 
 -- a legal journal with one more step is legal
 pub Legal-push : (script : Script) (s : Store) (journal : List Entry) (t : Store) (call : Call) (e : Entry) (u : Store) →
@@ -30,16 +27,3 @@ InOrderFrom-push script before (first ∷ journal) e order fits = (
   InOrderFrom-push script (before ++ first ∷ []) journal e order.1
       (subst (λ (front : List Entry). (rule : EntryRule) → FitsScript script front e rule) (sym (append_assoc before (first ∷ []) journal)) fits),
 )
-
--- the state and the entries after one more event
-pub after_events-push : (m : State) (events : List Event) (event : Event) →
-    after_events m (events ++ event ∷ []) ≡ after_turn (after_events m events) event.actor
-after_events-push m [] event = refl
-after_events-push m (first ∷ events) event = after_events-push (after_turn m first.actor) events event
-
-pub visible-push : (m : State) (events : List Event) (event : Event) →
-    visible m (events ++ event ∷ []) ≡ visible m events ++ visible_of (after_events m events) event.actor
-visible-push m [] event = append-nil (visible_of m event.actor)
-visible-push m (first ∷ events) event =
-    ap (λ (entries : List Entry). visible_of m first.actor ++ entries) (visible-push (after_turn m first.actor) events event)
-    ∙ sym (append_assoc (visible_of m first.actor) (visible (after_turn m first.actor) events) _)

@@ -1,5 +1,5 @@
-use Rattle.bd_machine.proofs.RuleLaws.{numbers_differ, one_least_rule}
-use Rattle.bd_machine.proofs.laws.one_least_rule.Goals as goal
+use Rattle.bd_entry.proofs.RuleLaws.{numbers_differ, one_least_rule}
+use Rattle.bd_entry.proofs.laws.one_least_rule.Goals as goal
 
 pub returns-clause-numbers : goal.returns-clause-numbers
 returns-clause-numbers c = numbers_differ

@@ -10,9 +10,9 @@ use Rattle.bd_base.specs.declared.script.Call.{Call}
 use Rattle.bd_base.specs.declared.script.Script.{Script}
 use Rattle.bd_base.specs.declared.journal.At.{At}
 use Rattle.bd_entry.specs.declared.entry.Entry.{Entry}
-use Rattle.bd_machine.specs.Calls.{at_of, call_at, entries_of, is_ended_by, is_finished, same_call}
-use Rattle.bd_machine.specs.Laws.{AreOfCall}
-use Rattle.bd_machine.specs.Rules.{EntryRule, FitsCall, FitsScript, IsNextCall, IsOfCall, NextCall}
+use Rattle.bd_entry.specs.Calls.{at_of, call_at, entries_of, is_ended_by, is_finished, same_call}
+use Rattle.bd_entry.specs.Laws.{AreOfCall}
+use Rattle.bd_entry.specs.Rules.{EntryRule, FitsCall, FitsScript, IsNextCall, IsOfCall, NextCall}
 
 -- the call of this process with this number
 abbrev pub numbered : ℕ → ℕ → At

@@ -4,9 +4,9 @@ use Rattle.std.proofs.Common.{◌≡◌, ℕ, ◌<◌, ◌≤◌, List, refl, sy
 use Rattle.std.proofs.lemmas.Bool.{cases_lt}
 use Rattle.bd_base.specs.declared.script.Script.{Script}
 use Rattle.bd_entry.specs.declared.entry.Entry.{Entry}
-use Rattle.bd_machine.specs.Laws.{NumbersDiffer, OneLeastRule}
-use Rattle.bd_machine.specs.Rules.{BreaksRule, EntryRule, NextCall, FitsCall, Once, RightWay, IsOpen, RightFile, Allowed, Rights, NoPlain, RightBlock, WithinLimit, RightBytes, NotRefused, entry_rule_number}
-use Rattle.bd_machine.specs.Store.{Store}
+use Rattle.bd_entry.specs.Laws.{NumbersDiffer, OneLeastRule}
+use Rattle.bd_entry.specs.Rules.{BreaksRule, EntryRule, NextCall, FitsCall, Once, RightWay, IsOpen, RightFile, Allowed, Rights, NoPlain, RightBlock, WithinLimit, RightBytes, NotRefused, entry_rule_number}
+use Rattle.bd_entry.specs.Store.{Store}
 
 -- the rule of a number
 abbrev rule_of : ℕ → EntryRule

@@ -11,14 +11,14 @@ use Rattle.bd_base.specs.declared.script.Script.{Script}
 use Rattle.bd_base.specs.declared.journal.At.{At}
 use Rattle.bd_entry.specs.declared.entry.Entry.{Entry}
 use Rattle.bd_entry.specs.declared.entry.Entry.TheVariants.{Attached, Mapped, Opened}
-use Rattle.bd_machine.specs.Calls.{at_of, call_at, entries_of, fd_of_call, is_ended_by, is_finished, same_call}
-use Rattle.bd_machine.specs.History.{InOrderFrom, Legal, Step, change_of, effect_of, settled, with_descriptor}
-use Rattle.bd_machine.specs.Laws.{AreOfCall, HistoriesKeepValid, IsNextEntry}
-use Rattle.bd_machine.specs.Rules.{EntryRule, FitsScript, IsNextCall, NextCall}
-use Rattle.bd_machine.specs.Store.{Descriptor, Store, Valid, start_store, with_work, work_of}
-use Rattle.bd_machine.proofs.CallOrder.{IsOrdered, entries_of-joined, entries_of-other, is_finished-other, numbered, ordered-push, ordered_at_start, stays_finished}
-use Rattle.bd_machine.proofs.Slots.{other_row}
-use Rattle.bd_machine.proofs.StoreLaws.{start_is_valid, step_keeps_valid}
+use Rattle.bd_entry.specs.Calls.{at_of, call_at, entries_of, fd_of_call, is_ended_by, is_finished, same_call}
+use Rattle.bd_entry.specs.History.{InOrderFrom, Legal, Step, change_of, effect_of, settled, with_descriptor}
+use Rattle.bd_entry.specs.Laws.{AreOfCall, HistoriesKeepValid, IsNextEntry}
+use Rattle.bd_entry.specs.Rules.{EntryRule, FitsScript, IsNextCall, NextCall}
+use Rattle.bd_entry.specs.Store.{Descriptor, Store, Valid, start_store, with_work, work_of}
+use Rattle.bd_entry.proofs.CallOrder.{IsOrdered, entries_of-joined, entries_of-other, is_finished-other, numbered, ordered-push, ordered_at_start, stays_finished}
+use Rattle.bd_entry.proofs.Slots.{other_row}
+use Rattle.bd_entry.proofs.StoreLaws.{start_is_valid, step_keeps_valid}
 
 -- what an entry changes of descriptors changes no entries
 change_of-work : (s : Store) (e : Entry) → (change_of s e).work ≡ s.work

@@ -5,9 +5,9 @@ use Rattle.bd_base.specs.declared.script.Call.{Call}
 use Rattle.bd_base.specs.declared.script.Script.{Script}
 use Rattle.bd_entry.specs.declared.entry.Entry.{Entry}
 use Rattle.bd_entry.specs.declared.entry.Entry.TheVariants.{Attached, Mapped, Opened}
-use Rattle.bd_machine.specs.Calls.{at_of, call_at, calls_of, fd_of_call, is_ended_by, is_finished}
-use Rattle.bd_machine.specs.Rules.{EntryRule, FitsScript, FitsStore}
-use Rattle.bd_machine.specs.Store.{Descriptor, Store, descriptor_at, size_of, with_part, with_slot, with_work, work_of}
+use Rattle.bd_entry.specs.Calls.{at_of, call_at, calls_of, fd_of_call, is_ended_by, is_finished}
+use Rattle.bd_entry.specs.Rules.{EntryRule, FitsScript, FitsStore}
+use Rattle.bd_entry.specs.Store.{Descriptor, Store, descriptor_at, size_of, with_part, with_slot, with_work, work_of}
 
 -- the store with its descriptor changed so
 abbrev pub with_descriptor : Store → ℕ → ℕ → (Descriptor → Descriptor) → Store

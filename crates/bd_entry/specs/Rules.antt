@@ -14,8 +14,8 @@ use Rattle.bd_base.specs.Pieces.{pieces}
 use Rattle.bd_base.specs.Policy.{open_denial}
 use Rattle.bd_entry.specs.declared.entry.Entry.{Entry}
 use Rattle.bd_entry.specs.declared.entry.Entry.TheVariants.{Access, Attached, Mapped, Opened}
-use Rattle.bd_machine.specs.Calls.{at_of, call_at, calls_of, entries_of, fd_of_call, is_access_of, is_finished}
-use Rattle.bd_machine.specs.Store.{Store, blocks_in, descriptor_at, file_at, has_part, has_plain, limit_at, lowest_fd, lowest_unattached, has_fragment, next_part, work_of}
+use Rattle.bd_entry.specs.Calls.{at_of, call_at, calls_of, entries_of, fd_of_call, is_access_of, is_finished}
+use Rattle.bd_entry.specs.Store.{Store, blocks_in, descriptor_at, file_at, has_part, has_plain, limit_at, lowest_fd, lowest_unattached, has_fragment, next_part, work_of}
 
 -- the rules by what each is about
 pub data EntryRule : Type 0 where

@@ -4,7 +4,7 @@ use Rattle.std.specs.Prelude.{slice_get, slice_index_or, slice_set}
 use Rattle.std.specs.List.{list_any}
 use Rattle.std.proofs.lemmas.List.Folds.{list_any-append}
 use Rattle.std.proofs.lemmas.Option.{none-some}
-use Rattle.bd_machine.specs.Store.{in_slot}
+use Rattle.bd_entry.specs.Store.{in_slot}
 
 -- the successors of different numbers differ
 ne_suc : (i j : ℕ) → j ≢ i → suc j ≢ suc i

@@ -12,9 +12,9 @@ use Rattle.bd_base.specs.declared.volume.Inode.{Inode}
 use Rattle.bd_base.specs.Files.{parts_for}
 use Rattle.bd_base.specs.Inodes.{blocks_at, inode_at}
 use Rattle.bd_entry.specs.declared.entry.Entry.{Entry}
-use Rattle.bd_machine.specs.History.{with_descriptor}
-use Rattle.bd_machine.specs.Store.{Descriptor, HasRows, IsDescriptor, Store, attaches_by, descriptor_at, has_part, has_plain, in_slot, is_plain_of, size_at, slots_of, with_slot, with_work}
-use Rattle.bd_machine.proofs.Slots.{none_row, none_set, none_slot, row_cases, slot_cases}
+use Rattle.bd_entry.specs.History.{with_descriptor}
+use Rattle.bd_entry.specs.Store.{Descriptor, HasRows, IsDescriptor, Store, attaches_by, descriptor_at, has_part, has_plain, in_slot, is_plain_of, size_at, slots_of, with_slot, with_work}
+use Rattle.bd_entry.proofs.Slots.{none_row, none_set, none_slot, row_cases, slot_cases}
 
 -- a descriptor of a valid store, where its sizes may be those of another time or not, and these files have a plain descriptor
 pub record IsSound (files : List (Option Inode)) (plain : ℕ → Bool) (stale : Bool) (d : Descriptor) : Type 0 where

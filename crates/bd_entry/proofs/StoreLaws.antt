@@ -26,13 +26,13 @@ use Rattle.bd_base.specs.Inodes.{has_name, id_of, inode_at}
 use Rattle.bd_base.specs.Volumes.{IsSoundVolume}
 use Rattle.bd_entry.specs.declared.entry.Entry.{Entry}
 use Rattle.bd_entry.specs.declared.entry.Entry.TheVariants.{Access, Attached, Mapped, Opened}
-use Rattle.bd_machine.specs.Calls.{at_of, is_ended_by, is_mapped, opened_fd}
-use Rattle.bd_machine.specs.History.{change_of, effect_of, settled, with_descriptor}
-use Rattle.bd_machine.specs.Laws.{AreOfCall, IsNextEntry, StartIsValid, StepKeepsValid}
-use Rattle.bd_machine.specs.Rules.{EntryRule, FitsStore, IsOfCall, IsOpen, NoPlain, RightFile, Rights}
-use Rattle.bd_machine.specs.Store.{Descriptor, HasRows, Store, Valid, attaches_by, descriptor_at, has_part, has_plain, in_slot, is_empty_slot, is_plain_of, parts_in, size_of, slots_of, volume_in, with_part, with_slot, with_work, work_of}
-use Rattle.bd_machine.proofs.Descriptors.{AreSound, IsSound, KeepsFile, all_sound, alter, altered, attaching, not_plain, put, rows_slot, rows_work, sound_all, sound_work}
-use Rattle.bd_machine.proofs.Slots.{none_before, none_joined, other_row, row_there, row_within}
+use Rattle.bd_entry.specs.Calls.{at_of, is_ended_by, is_mapped, opened_fd}
+use Rattle.bd_entry.specs.History.{change_of, effect_of, settled, with_descriptor}
+use Rattle.bd_entry.specs.Laws.{AreOfCall, IsNextEntry, StartIsValid, StepKeepsValid}
+use Rattle.bd_entry.specs.Rules.{EntryRule, FitsStore, IsOfCall, IsOpen, NoPlain, RightFile, Rights}
+use Rattle.bd_entry.specs.Store.{Descriptor, HasRows, Store, Valid, attaches_by, descriptor_at, has_part, has_plain, in_slot, is_empty_slot, is_plain_of, parts_in, size_of, slots_of, volume_in, with_part, with_slot, with_work, work_of}
+use Rattle.bd_entry.proofs.Descriptors.{AreSound, IsSound, KeepsFile, all_sound, alter, altered, attaching, not_plain, put, rows_slot, rows_work, sound_all, sound_work}
+use Rattle.bd_entry.proofs.Slots.{none_before, none_joined, other_row, row_there, row_within}
 
 -- entries of a call in two parts
 parted : (call : Call) (before front back : List Entry) → AreOfCall call before (front ++ back) → AreOfCall call before front × AreOfCall call (before ++ front) back

@@ -1,0 +1,9 @@
+pub mod Parts
+pub mod Histories
+pub mod JournalLaws
+pub mod RuleLaws
+pub mod Slots
+pub mod Descriptors
+pub mod StoreLaws
+pub mod CallOrder
+pub mod HistoryLaws

@@ -1,5 +1,0 @@
-use Rattle.bd_machine.proofs.JournalLaws.{one_store}
-use Rattle.bd_machine.proofs.laws.one_end.Goals as goal
-
-pub returns : goal.returns
-returns c = one_store
