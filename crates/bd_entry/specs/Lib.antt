@@ -1,6 +1,9 @@
--- The plain store of files, and the legality of a journal.
+-- The plain store of files, the legality of a journal, and the words of the contracts of journals as text.
 pub mod Store
 pub mod Calls
 pub mod Rules
 pub mod History
 pub mod Laws
+pub mod Ranges
+pub mod Reading
+pub mod Texts
