@@ -14,11 +14,10 @@ mod reasons;
 
 use crate::entry::{Entry, EntryList};
 use crate::error::JournalError;
-use bd_base::CALLS;
 use crate::read::kinds::read_fields;
 use crate::read::numbers::{front_two, split_at_byte};
 use crate::words::{Word, read_word};
-use bd_base::{At, List, OutOfMemory, PROCESSES, Pid};
+use bd_base::{At, CALLS, List, OutOfMemory, PROCESSES, Pid};
 use std::alloc::Global;
 
 // The call at the front of a line, and what follows it.

@@ -1,0 +1,20 @@
+-- Lemmas that the proofs share.
+pub mod NumberTexts
+pub mod TurnSums
+pub mod FieldTexts
+pub mod Lifts
+pub mod NamedLines
+pub mod NumberLines
+pub mod LineLists
+pub mod ItemTexts
+pub mod WordTexts
+pub mod DraftLines
+pub mod DraftItems
+pub mod Breaches
+pub mod FormTexts
+pub mod Refusing
+pub mod LineOrder
+pub mod ScheduleOrder
+pub mod LawsOfTexts
+pub mod LineEnds
+pub mod ReadBack
