@@ -14,8 +14,8 @@ free_block_after is_free None = None
 free_block_after is_free (Some block) = cond (is_free (block + 1)) (Some (block + 1)) None
 
 -- the block after this one where that is free, else the lowest free block below total; none where no block is free
-abbrev pub allocated : (ℕ → Bool) → ℕ → Option ℕ → Option ℕ
-allocated is_free total after = option_or (free_block_after is_free after) (lowest_free is_free total)
+abbrev pub allocated_block : (ℕ → Bool) → ℕ → Option ℕ → Option ℕ
+allocated_block is_free total after = option_or (free_block_after is_free after) (lowest_free is_free total)
 
 -- whether this is a data block of an image of total blocks with room for so many files
 abbrev pub is_data_block : ℕ → ℕ → ℕ → Bool

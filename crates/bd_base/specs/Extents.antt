@@ -1,5 +1,5 @@
 -- Lists of blocks, and the extents that say the same in fewer words.
-use Rattle.std.specs.Prelude.{◌≢◌, ℕ, ◌+◌, ◌<◌, nat_eq, cond, List, [], ◌∷◌, ◌++◌}
+use Rattle.std.specs.Prelude.{◌≢◌, ℕ, ◌+◌, ◌<◌, Bool, true, nat_eq, not, cond, Option, None, Some, List, [], ◌∷◌, ◌++◌}
 use Rattle.std.specs.List.{range_with_len}
 use Rattle.bd_base.specs.declared.volume.Extent.{Extent}
 
@@ -16,7 +16,7 @@ with_front_block b (e ∷ es) =
     (record { start = b; length = e.length + 1 } ∷ es)
     (record { start = b; length = 1 } ∷ e ∷ es)
 
--- the maximal runs of blocks that follow each other, in order
+-- the extents of these blocks in order, each as long as can be
 abbrev pub extents_of : List ℕ → List Extent
 extents_of [] = []
 extents_of (b ∷ bs) = with_front_block b (extents_of bs)
@@ -30,3 +30,8 @@ NoneBeginsAt b (e ∷ es) = e.start ≢ b
 abbrev pub AreMaximal : List Extent → Type 0
 AreMaximal [] = Unit {0}
 AreMaximal (e ∷ es) = (0 < e.length) × NoneBeginsAt (e.start + e.length) es × AreMaximal es
+
+-- whether a block begins an extent after this one, the last before it
+abbrev pub is_extent_start : Option ℕ → ℕ → Bool
+is_extent_start None block = true
+is_extent_start (Some last) block = not (nat_eq block (last + 1))

@@ -1,6 +1,6 @@
 -- Sizes of files in blocks, bytes and parts.
 use Rattle.std.specs.Prelude.{ℕ, ◌+◌, ◌-◌, ◌*◌, ◌/◌, min, nat_lt, cond, List, length}
-use Rattle.bd_base.specs.declared.limits.TheConstants.{BLOCK_SIZE, PART_BLOCKS}
+use Rattle.bd_base.specs.declared.limits.TheConstants.{BLOCK_RECORDS, BLOCK_SIZE, PART_BLOCKS}
 
 -- how many blocks a file of this size has
 abbrev pub blocks_for : ℕ → ℕ
@@ -14,6 +14,6 @@ parts_for blocks = (blocks + (PART_BLOCKS - 1)) / PART_BLOCKS
 abbrev pub limit_of : ℕ → List ℕ → ℕ → ℕ
 limit_of size blocks index = cond (nat_lt index (length blocks)) (min BLOCK_SIZE (size - BLOCK_SIZE * index)) 0
 
--- the first data block of an image with this many records: two blocks and the records stand before it, 16 to a block
+-- the first data block of an image with room for so many files: the header, the bitmap and the records stand before it
 abbrev pub data_start : ℕ → ℕ
-data_start inodes = 2 + inodes / 16
+data_start capacity = 2 + capacity / BLOCK_RECORDS

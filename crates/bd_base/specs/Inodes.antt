@@ -2,11 +2,11 @@
 use Rattle.std.specs.Prelude.{◌≡◌, ℕ, ◌-◌, ◌*◌, ◌%◌, ◌<◌, ◌≤◌, Bool, false, IsTrue, nat_eq, nat_le, nat_lt, is_some, not, cond, take, Option, None, Some, List, [], ◌∷◌, ◌++◌, length, map, position, slice_index_or, unwrap_or, All}
 use Rattle.std.specs.Option.{option_to_list}
 use Rattle.std.specs.Str.{bytes_eq}
-use Rattle.bd_base.specs.declared.limits.TheConstants.{BLOCK_SIZE, BLOCKS, EXTENTS, FILES, FILE_SIZE, PERMS}
+use Rattle.bd_base.specs.declared.limits.TheConstants.{BLOCK_RECORDS, BLOCK_SIZE, BLOCKS, EXTENTS, FILES, FILE_SIZE, LEAST_BLOCKS, PERMS}
 use Rattle.bd_base.specs.declared.reason.Reason.{Reason}
 use Rattle.bd_base.specs.declared.reason.Reason.TheVariants.{Exists, Inodes, NoSpace, Extents, TooBig}
 use Rattle.bd_base.specs.declared.volume.Inode.{Inode}
-use Rattle.bd_base.specs.Allocation.{allocated, is_data_block, is_free_block, last_block, times_listed}
+use Rattle.bd_base.specs.Allocation.{allocated_block, is_data_block, is_free_block, last_block, times_listed}
 use Rattle.bd_base.specs.Extents.{extents_of}
 use Rattle.bd_base.specs.Files.{blocks_for}
 use Rattle.bd_base.specs.Names.{IsName}
@@ -22,8 +22,8 @@ abbrev pub no_file : Inode
 no_file = record { name = []; owner = 0; perms = 0; size = 0; blocks = [] }
 
 -- the file with this id, which exists
-abbrev pub file_at : List (Option Inode) → ℕ → Inode
-file_at files id = unwrap_or (inode_at files id) no_file
+abbrev pub existing_file : List (Option Inode) → ℕ → Inode
+existing_file files id = unwrap_or (inode_at files id) no_file
 
 -- whether there is a file and it has this name
 abbrev pub has_name : List ℕ → Option Inode → Bool
@@ -41,13 +41,13 @@ free_id files = position (λ file. not (is_some file)) files
 -- ---- blocks
 
 -- the blocks of a file, none where there is no file
-abbrev pub blocks_at : Option Inode → List ℕ
-blocks_at None = []
-blocks_at (Some file) = file.blocks
+abbrev pub blocks_of_slot : Option Inode → List ℕ
+blocks_of_slot None = []
+blocks_of_slot (Some file) = file.blocks
 
 -- the blocks of each file
 abbrev pub block_lists : List (Option Inode) → List (List ℕ)
-block_lists files = map blocks_at files
+block_lists files = map blocks_of_slot files
 
 -- whether a block of an image of total blocks is a data block that no file has
 abbrev pub is_free : ℕ → List (Option Inode) → ℕ → Bool
@@ -65,7 +65,8 @@ pub record IsValidFile (total capacity : ℕ) (file : Inode) : Type 0 where
 -- no two files have one name
 abbrev pub NamesDiffer : List (Option Inode) → Type 0
 NamesDiffer files =
-    (i j : ℕ) (file other : Inode) → inode_at files i ≡ Some file → inode_at files j ≡ Some other → file.name ≡ other.name → i ≡ j
+    (i j : ℕ) (file other : Inode) → inode_at files i ≡ Some file → inode_at files j ≡ Some other →
+    file.name ≡ other.name → i ≡ j
 
 -- files of an image of total blocks
 pub record AreValidFiles (total : ℕ) (files : List (Option Inode)) : Type 0 where
@@ -78,9 +79,9 @@ pub record AreValidFiles (total : ℕ) (files : List (Option Inode)) : Type 0 wh
 -- the files of an accepted image
 pub record AreFiles (total : ℕ) (files : List (Option Inode)) : Type 0 where
   pub valid : AreValidFiles total files
-  pub enough_blocks : 20 ≤ total
-  pub some_room : 16 ≤ length files
-  pub whole_blocks : length files % 16 ≡ 0
+  pub enough_blocks : LEAST_BLOCKS ≤ total
+  pub some_room : BLOCK_RECORDS ≤ length files
+  pub whole_blocks : length files % BLOCK_RECORDS ≡ 0
   pub names : (id : ℕ) (file : Inode) → inode_at files id ≡ Some file → IsName file.name
   pub perms : (id : ℕ) (file : Inode) → inode_at files id ≡ Some file → file.perms < PERMS
 
@@ -95,25 +96,30 @@ create_refusal name files =
 -- the block that a growth of this file to a larger size takes: none within its last block
 abbrev pub growth_block : ℕ → List (Option Inode) → Inode → Option ℕ
 growth_block total files file =
-    cond (nat_eq (file.size % BLOCK_SIZE) 0) (allocated (is_free total files) total (last_block file.blocks)) None
+    cond (nat_eq (file.size % BLOCK_SIZE) 0) (allocated_block (is_free total files) total (last_block file.blocks)) None
 
 -- why a file of these blocks does not get this next one: there is none, or it needs one extent too many
 abbrev pub block_refusal : List ℕ → Option ℕ → Option Reason
 block_refusal blocks None = Some NoSpace
-block_refusal blocks (Some block) = cond (nat_le (length (extents_of (blocks ++ block ∷ []))) EXTENTS) None (Some Extents)
+block_refusal blocks (Some block) =
+    cond (nat_le (length (extents_of (blocks ++ block ∷ []))) EXTENTS) None (Some Extents)
 
 -- why this file does not grow to this larger size
 abbrev pub growth_refusal : ℕ → List (Option Inode) → Inode → ℕ → Option Reason
 growth_refusal total files file to =
     cond (nat_lt FILE_SIZE to) (Some TooBig)
     (cond (nat_eq (file.size % BLOCK_SIZE) 0)
-    (block_refusal file.blocks (allocated (is_free total files) total (last_block file.blocks))) None)
+    (block_refusal file.blocks (allocated_block (is_free total files) total (last_block file.blocks))) None)
 
--- ---- a file after a change
+-- ---- a file that was made, and after a change
+
+-- an empty file, as one is made
+abbrev pub empty_file : List ℕ → ℕ → ℕ → Inode
+empty_file name owner perms = record { name = name; owner = owner; perms = perms; size = 0; blocks = [] }
 
 -- this file with the block that it took, if any, and this size
-abbrev pub grown : Inode → Option ℕ → ℕ → Inode
-grown file block to = record file { size = to; blocks = file.blocks ++ option_to_list block }
+abbrev pub grown_file : Inode → Option ℕ → ℕ → Inode
+grown_file file block to = record file { size = to; blocks = file.blocks ++ option_to_list block }
 
 -- this file without its last block
 abbrev pub without_last : Inode → Inode

@@ -1,6 +1,6 @@
 -- What a volume is: as far as a machine needs it, and as an accepted image says it.
-use Rattle.std.specs.Prelude.{◌≡◌, ℕ, ◌+◌, ◌*◌, ◌/◌, ◌%◌, ◌^◌, ◌<◌, ◌≤◌, List, length, replicate, slice_get, slice_index, slice_index_or, take, Some, All}
-use Rattle.bd_base.specs.declared.limits.TheConstants.{BLOCK_SIZE, BLOCKS, FILE_SIZE, FILES}
+use Rattle.std.specs.Prelude.{◌≡◌, ℕ, ◌+◌, ◌*◌, ◌/◌, ◌%◌, ◌<◌, ◌≤◌, List, length, replicate, slice_get, slice_index, slice_index_or, take, Some, All}
+use Rattle.bd_base.specs.declared.limits.TheConstants.{BLOCK_SIZE, BLOCKS, FILE_SIZE, FILES, USERS}
 use Rattle.bd_base.specs.declared.volume.Inode.{Inode}
 use Rattle.bd_base.specs.declared.volume.Volume.{Volume}
 use Rattle.bd_base.specs.Bytes.{AreBytes}
@@ -30,10 +30,11 @@ HasZeroTail bytes f =
 abbrev pub metadata_size : ℕ → ℕ
 metadata_size inodes = BLOCK_SIZE * data_start inodes
 
--- a volume as an accepted image says it: files of an image, the bytes of all blocks, zeros in place of the metadata, and zeros past the sizes of files
+-- a volume as an accepted image says it: files of an image, the bytes of all blocks, zeros in place of the metadata,
+-- and zeros past the sizes of files
 pub record IsSoundVolume (v : Volume) : Type 0 where
   pub files : AreFiles v.total v.inodes
-  pub owners : (id : ℕ) (f : Inode) → inode_at v.inodes id ≡ Some f → f.owner < 2 ^ 32
+  pub owners : (id : ℕ) (f : Inode) → inode_at v.inodes id ≡ Some f → f.owner < USERS
   pub are_bytes : AreBytes v.bytes
   pub all_bytes : length v.bytes ≡ BLOCK_SIZE * v.total
   pub metadata : take (metadata_size (length v.inodes)) v.bytes ≡ replicate (metadata_size (length v.inodes)) 0

@@ -203,7 +203,8 @@ impl Vba {
     }
 }
 
-/// An actor that takes turns. With P processes, 0 to P-1 are the processors, P to 2P-1 the device engines in the same order, and 2P is the invalidation engine.
+/// An actor that takes turns. With P processes, 0 to P-1 are the processors, P to 2P-1 the device engines in the same
+/// order, and 2P is the invalidation engine.
 ///
 /// The field is private, so each value is below [`ACTORS`]. Contracts see the number.
 #[derive(Clone, Copy, Debug, PartialEq, Eq, PartialOrd, Ord, Hash)]

@@ -1,6 +1,8 @@
 //! Files and volumes: what an image says.
 ghost use Rattle.std.specs.Prelude.{◌≡◌, IfOk};
+ghost use Rattle.bd_base.specs.Files.{data_start};
 
+use crate::limits::BLOCK_RECORDS;
 use crate::list::{Bytes, List, OutOfMemory};
 use crate::numbers::BlockNo;
 use std::alloc::Global;
@@ -63,6 +65,14 @@ pub fn copy_inodes(alloc: Global, inodes: &[Option<Inode>]) -> Result<InodeList,
         copy.push(copy_slot(slot)?)?;
     }
     Ok(copy)
+}
+
+/// The first data block of an image with room for `capacity` files. Before it stand the header, the bitmap and the
+/// records of the files, 16 to a block.
+pub fn data_start(capacity: u64) -> u64
+    ensures { result ≡ data_start capacity }
+{
+    2 + capacity / BLOCK_RECORDS
 }
 
 /// Blocks in a row: `length` of them from `start` on.

@@ -1,50 +1,57 @@
 -- What the steps of reading runs answer.
-use Rattle.std.specs.Prelude.{◌≡◌, ◌≢◌, ℕ, ◌+◌, ◌^◌, ◌<◌, ◌≤◌, Bool, true, false, List, [], ◌∷◌, ◌++◌, replicate, Option, None, Some}
-use Rattle.bd_blocks.specs.Runs.{Run, run_text, later_text, decimal_text}
+use Rattle.std.specs.Prelude.{◌≡◌, ◌≢◌, ◌⊎◌, ℕ, ◌+◌, ◌^◌, ◌<◌, List, ◌++◌, replicate, Option, None, Some, Result, IsErrOf}
+use Rattle.bd_blocks.specs.declared.read.Progress.{Progress}
+use Rattle.bd_blocks.specs.declared.read.Room.{Room}
+use Rattle.bd_blocks.specs.declared.read.Room.TheVariants.{Left, Passed}
+use Rattle.bd_blocks.specs.declared.read.RunsError.{RunsError}
+use Rattle.bd_blocks.specs.declared.read.RunsError.TheVariants.{OutOfMemory}
+use Rattle.bd_blocks.specs.declared.text.numbers.Number.{Number}
+use Rattle.bd_blocks.specs.declared.text.numbers.Number.TheVariants.{Small, Large}
+use Rattle.bd_blocks.specs.Runs.{Run, run_text}
+use Rattle.bd_blocks.specs.Texts.{IsNumber}
 
--- a count that was read is this number: None is one that has more than 64 bits
-abbrev pub IsCount : Option ℕ → ℕ → Type 0
-IsCount None n = 2 ^ 64 ≤ n
-IsCount (Some c) n = n ≡ c
+-- this error came, or no memory was found
+abbrev pub IsErrUnlessMemory : {A : Type 0} → Result A RunsError → RunsError → Type 0
+IsErrUnlessMemory {A} result error = IsErrOf result error ⊎ IsErrOf result OutOfMemory
 
--- a text, if there is any, does not begin with a decimal digit
-abbrev pub NoDigitFirst : List ℕ → Type 0
-NoDigitFirst [] = Unit {0}
-NoDigitFirst (c ∷ cs) = 48 ≤ c → c < 58 → ⊥
-
--- the text is a number of at least 1 and then the rest, which begins with no digit
-pub record IsDecimal (text : List ℕ) (count : Option ℕ) (rest : List ℕ) : Type 0 where
+-- the text is that of a run, of this byte and this count
+pub record IsRunText (text : List ℕ) (byte : ℕ) (count : Number) : Type 0 where
   pub number : ℕ
   pub positive : 0 < number
-  pub is_count : IsCount count number
-  pub split : text ≡ decimal_text number ++ rest
-  pub longest : NoDigitFirst rest
-
--- what follows a run: nothing, or a comma and more
-abbrev pub next_text : Bool → List ℕ → List ℕ
-next_text true next = []
-next_text false next = 44 ∷ next
-
--- the text begins with this run, after which it ends or goes on with a comma
-pub record IsNextRun (text : List ℕ) (byte : ℕ) (count : Option ℕ) (last : Bool) (next : List ℕ) : Type 0 where
-  pub number : ℕ
-  pub positive : 0 < number
-  pub is_count : IsCount count number
+  pub is_count : IsNumber count number
   pub is_byte : byte < 256
-  pub split : text ≡ run_text (record { byte = byte; count = number }) ++ next_text last next
+  pub spelled : text ≡ run_text (record { byte = byte; count = number })
 
--- the text is the text of no run with others after it
+-- the text is that of no run
 abbrev pub IsNoRun : List ℕ → Type 0
-IsNoRun text = (r : Run) (rs : List Run) → r.byte < 256 → 0 < r.count → text ≢ run_text r ++ later_text rs
+IsNoRun text = (r : Run) → r.byte < 256 → 0 < r.count → text ≢ run_text r
+
+-- the byte of the run before, if there is one, is another
+abbrev pub NotPrior : Option ℕ → ℕ → Type 0
+NotPrior None b = Unit {0}
+NotPrior (Some p) b = b ≢ p
 
 -- this many bytes and the room that is left are a number of 64 bits
-abbrev pub HasRoom : ℕ → Option ℕ → Type 0
-HasRoom held None = Unit {0}
-HasRoom held (Some room) = held + room < 2 ^ 64
+abbrev pub HasRoom : ℕ → Room → Type 0
+HasRoom held (Left room) = held + room < 2 ^ 64
+HasRoom held Passed = Unit {0}
 
 -- a run was appended to old, where there was room for it
-abbrev pub Fills : List ℕ → List ℕ → Option ℕ → ℕ → Option ℕ → Option ℕ → Type 0
-Fills old new None byte count left = left ≡ None
-Fills old new (Some room) byte None left = left ≡ None
-Fills old new (Some room) byte (Some n) None = room < n
-Fills old new (Some room) byte (Some n) (Some left) = (left + n ≡ room) × (new ≡ old ++ replicate n byte)
+abbrev pub Fills : List ℕ → List ℕ → Room → ℕ → Number → Room → Type 0
+Fills old new Passed byte count left = left ≡ Passed
+Fills old new (Left room) byte Large left = left ≡ Passed
+Fills old new (Left room) byte (Small n) Passed = room < n
+Fills old new (Left room) byte (Small n) (Left left) = (left + n ≡ room) × (new ≡ old ++ replicate n byte)
+
+-- the item is a run of another byte than the one before it, and was appended where there was room
+pub record TakesItem (old new : List ℕ) (was : Progress) (item : List ℕ) (is : Progress) : Type 0 where
+  pub byte : ℕ
+  pub count : Number
+  pub is_run : IsRunText item byte count
+  pub other : NotPrior was.prior byte
+  pub prior : is.prior ≡ Some byte
+  pub fills : Fills old new was.room byte count is.room
+
+-- the item is that of no run that may follow
+abbrev pub IsNoNextRun : Option ℕ → List ℕ → Type 0
+IsNoNextRun prior item = (r : Run) → r.byte < 256 → 0 < r.count → NotPrior prior r.byte → item ≢ run_text r

@@ -33,11 +33,11 @@ impl Block {
         Ok(Block { bytes })
     }
 
-    /// A block of the same bytes.
-    pub fn copy(&self, alloc: Global) -> Result<Block, OutOfMemory>
+    /// A block of the same bytes, made by the allocator of this one.
+    pub fn copy(&self) -> Result<Block, OutOfMemory>
         ensures { IfOk result (λ b. b ≡ self.now) }
     {
-        let bytes = Vec::from_slice(alloc, self.bytes.as_slice())?;
+        let bytes = Vec::from_slice(*self.bytes.allocator(), self.bytes.as_slice())?;
         Ok(Block { bytes })
     }
 
@@ -70,7 +70,7 @@ mod tests {
         let mut block = Block::zero(rt.alloc())?;
         let front = Range::new(0, 2).ok_or("a range")?;
         block.put(front, &[0x41, 0x42]);
-        let copy = block.copy(rt.alloc())?;
+        let copy = block.copy()?;
         let rest = Range::new(2, 4096).ok_or("a range")?;
         for block in [&block, &copy] {
             assert_eq!(rt; block.slice(front), [0x41, 0x42].as_slice());

@@ -1,14 +1,14 @@
-//! Blocks of bytes, and the text in which bytes are written as runs.
+//! Blocks of bytes, the text in which bytes are written as runs, and what all texts have in common: fields, numbers, lines.
 #![tactic(auto)]
 
 mod block;
-mod laws;
+pub mod laws;
 mod print;
 mod read;
+pub mod text;
 
 pub use block::Block;
-pub use laws::runs_have_one_reading;
-pub use print::runs;
+pub use print::{push_runs, runs};
 pub use read::{RunsError, read_runs};
 
 #[cfg(test)]

@@ -1,5 +1,11 @@
-//! Runs that are written and read, and texts that are no runs.
-use crate::{RunsError, read_runs, runs};
+//! Runs, numbers and words that are written and read, and texts that are none.
+use crate::text::{
+    Number, SPACE, Within, direction_word, front_name, front_number, push_bytes, push_field,
+    push_mode_and_how, push_number, push_number_field, push_three_numbers, push_two_numbers,
+    read_direction, read_mode_and_how, read_number, read_way, split_at_byte, way_word,
+};
+use crate::{RunsError, push_runs, read_runs, runs};
+use bd_base::{How, Mode, Way};
 use std::test::Fail;
 
 #[test]
@@ -65,5 +71,63 @@ fn refuses_more_than_it_may_read(rt: HostRuntime) -> Result<(), Fail> {
         let answer = read_runs(rt.alloc(), text.as_bytes(), most).err();
         assert_eq!(rt; answer, Some(RunsError::TooMany), "from {text:?}");
     }
+    Ok(())
+}
+
+#[test]
+fn writes_and_reads_numbers(rt: HostRuntime) -> Result<(), Fail> {
+    for (number, spelled) in [
+        (0, "0"),
+        (7, "7"),
+        (10, "10"),
+        (4096, "4096"),
+        (u64::MAX, "18446744073709551615"),
+    ] {
+        let mut text = Vec::new(rt.alloc());
+        push_number(&mut text, number)?;
+        assert_eq!(rt; text.as_slice(), spelled.as_bytes());
+        let read = read_number(spelled.as_bytes());
+        assert_eq!(rt; read, Some(Number::Small(number)), "from {spelled}");
+    }
+    let large = read_number(b"18446744073709551616");
+    assert_eq!(rt; large, Some(Number::Large));
+    for text in ["", "00", "01", "+1", "-1", "1 ", " 1", "1a", "/", ":"] {
+        assert_eq!(rt; read_number(text.as_bytes()), None, "from {text:?}");
+    }
+    Ok(())
+}
+
+#[test]
+fn writes_fields(rt: HostRuntime) -> Result<(), Fail> {
+    let mut text = Vec::new(rt.alloc());
+    push_mode_and_how(&mut text, Mode::Rw, How::Plain)?;
+    push_bytes(&mut text, b" ")?;
+    push_field(&mut text, direction_word(true))?;
+    push_field(&mut text, way_word(Way::PastKnown))?;
+    push_number_field(&mut text, 5)?;
+    push_two_numbers(&mut text, 6, 7)?;
+    push_bytes(&mut text, b" ")?;
+    push_three_numbers(&mut text, 8, 9, 10)?;
+    push_bytes(&mut text, b" ")?;
+    push_runs(&mut text, b"AA")?;
+    assert_eq!(rt;
+        text.as_slice(),
+        b"rw plain wrote past-known 5 6 7 8 9 10 41*2".as_slice()
+    );
+    let (name, rest) = front_name(text.as_slice()).ok_or("a name")?;
+    assert_eq!(rt; name, b"rw".as_slice());
+    assert_eq!(rt;
+        read_mode_and_how(b"rw plain"),
+        Some((Mode::Rw, How::Plain))
+    );
+    let (_, rest) = split_at_byte(rest, SPACE).ok_or("a field")?;
+    let (field, rest) = split_at_byte(rest, SPACE).ok_or("a field")?;
+    assert_eq!(rt; read_direction(field), Some(true));
+    let (field, rest) = split_at_byte(rest, SPACE).ok_or("a field")?;
+    assert_eq!(rt; read_way(field), Some(Way::PastKnown));
+    let (number, rest) = front_number(rest).ok_or("a number")?;
+    assert_eq!(rt; number.within(Within { least: 5, most: 5 }), Some(5));
+    assert_eq!(rt; number.within(Within { least: 6, most: 9 }), None);
+    assert_eq!(rt; rest, b"6 7 8 9 10 41*2".as_slice());
     Ok(())
 }

@@ -1,80 +1,54 @@
 -- Every legal journal in order leads from a sound volume to a valid store.
-use Rattle.std.proofs.Common.{◌≡◌, ◌≢◌, ℕ, ◌<◌, true, false, cond, List, [], ◌∷◌, ◌++◌, map, length, zero, suc, Option, None, Some, refl, sym, ap, ◌∙◌, subst, arith, ⊎_elim}
+use Rattle.std.proofs.Common.{◌≡◌, ℕ, ◌<◌, true, false, cond, List, [], ◌∷◌, ◌++◌, map, length, zero, suc, Option, None, Some, refl, sym, ap, ◌∙◌, subst, append_assoc, arith, ⊎_elim}
 use Rattle.std.specs.Prelude.{nat_eq, slice_get, slice_index_or, slice_set}
 use Rattle.std.specs.Option.{option_map_or}
-use Rattle.std.proofs.lemmas.Bool.{and_from, and_left, and_right, both_ways, cases_eq, cases_order, cond-false, cond-true, eq-eqb, ne_eqb}
-use Rattle.std.proofs.lemmas.List.{get_or-set_same, length-map, length-set}
+use Rattle.std.proofs.lemmas.Bool.{and_right, both_ways, cases_eq, cases_order, cond-false, cond-true, ne_eqb}
+use Rattle.std.proofs.lemmas.List.{append-nil, get_or-set_other, get_or-set_same, length-map, length-set}
 use Rattle.std.proofs.lemmas.Option.{none-some, slice_get_cases}
 use Rattle.bd_base.specs.declared.script.Call.{Call}
 use Rattle.bd_base.specs.declared.script.Process.{Process}
 use Rattle.bd_base.specs.declared.script.Script.{Script}
 use Rattle.bd_base.specs.declared.journal.At.{At}
+use Rattle.bd_base.specs.declared.volume.Volume.{Volume}
+use Rattle.bd_base.specs.Scripts.{IsCall, IsProcess, IsWithinLimits}
+use Rattle.bd_base.specs.Volumes.{IsSoundVolume}
 use Rattle.bd_entry.specs.declared.entry.Entry.{Entry}
-use Rattle.bd_entry.specs.declared.entry.Entry.TheVariants.{Attached, Mapped, Opened}
-use Rattle.bd_entry.specs.Calls.{at_of, call_at, entries_of, fd_of_call, is_ended_by, is_finished, same_call}
-use Rattle.bd_entry.specs.History.{InOrderFrom, Legal, Step, change_of, effect_of, settled, with_descriptor}
-use Rattle.bd_entry.specs.Laws.{AreOfCall, HistoriesKeepValid, IsNextEntry}
-use Rattle.bd_entry.specs.Rules.{EntryRule, FitsScript, IsNextCall, NextCall}
-use Rattle.bd_entry.specs.Store.{Descriptor, Store, Valid, start_store, with_work, work_of}
-use Rattle.bd_entry.proofs.CallOrder.{IsOrdered, entries_of-joined, entries_of-other, is_finished-other, numbered, ordered-push, ordered_at_start, stays_finished}
-use Rattle.bd_entry.proofs.Slots.{other_row}
+use Rattle.bd_entry.specs.Calls.{at_of, call_at, entries_of, is_ended_by, is_finished, same_call}
+use Rattle.bd_entry.specs.History.{InOrderFrom, Legal, Step}
+use Rattle.bd_entry.specs.Laws.{AreOfCall, HistoriesKeepValid, IsHistory, IsNextEntry, WorkIsOfRunningCall}
+use Rattle.bd_entry.specs.Rules.{EntryRule, FitsScript, NextCall, place_in}
+use Rattle.bd_entry.specs.RulesOfCalls.{IsNextCall}
+use Rattle.bd_entry.specs.Store.{Store, Valid, start_store, work_of}
+use Rattle.bd_entry.proofs.CallOrder.{IsOrdered, entries_of-joined, entries_of-other, is_finished-called, next-other, numbered, ordered-push, ordered_at_start, other_process, same_self, start_of, stays_finished}
+use Rattle.bd_entry.proofs.CallPieces.{All-slice_get}
+use Rattle.bd_entry.proofs.CallWork.{effect_of-work}
 use Rattle.bd_entry.proofs.StoreLaws.{start_is_valid, step_keeps_valid}
 
--- what an entry changes of descriptors changes no entries
-change_of-work : (s : Store) (e : Entry) → (change_of s e).work ≡ s.work
-change_of-work s (Opened at file fd mode how) = refl
-change_of-work s (Attached at fd part) = refl
-change_of-work s (Mapped at fd count) = refl
-change_of-work s entry = refl
-
--- a call that has ended leaves no entries
-settled-work : (call : Call) (entries : List Entry) (process : ℕ) (s : Store) → (settled call entries process s).work ≡ slice_set s.work process []
-settled-work call entries process s =
-    elim (fd_of_call call entries) as (λ o.
-    (option_map_or (λ fd. with_descriptor (with_work s process []) process fd (λ (d : Descriptor). record d { known = d.told })) o (with_work s process [])).work
-    ≡ slice_set s.work process []) [
-      | None ↦ refl
-      | Some fd ↦ refl
-    ]
-
--- the entries of running calls after an entry: it joins those of its call, which become none as the call ends
-effect_of-work : (s : Store) (call : Call) (e : Entry) →
-    let entries = work_of s (at_of e).process ++ e ∷ [] in
-    (effect_of s call e).work ≡ slice_set s.work (at_of e).process (cond (is_ended_by call entries) [] entries)
-effect_of-work s call e =
-    let process = (at_of e).process in
-    let entries = work_of s process ++ e ∷ [] in
-    elim (is_ended_by call entries) as (λ b.
-    (cond b (settled call entries process (change_of s e)) (with_work (change_of s e) process entries)).work ≡ slice_set s.work process (cond b [] entries)) [
-      | true ↦ settled-work call entries process (change_of s e) ∙ ap (λ (work : List (List Entry)). slice_set work process []) (change_of-work s e)
-      | false ↦ ap (λ (work : List (List Entry)). slice_set work process entries) (change_of-work s e)
-    ]
-
 -- a process that has a call is in the script
-process_there : (script : Script) (at : At) (call : Call) → call_at script at ≡ Some call → at.process < length script.processes
+pub process_there : (script : Script) (at : At) (call : Call) → call_at script at ≡ Some call → at.process < length script.processes
 process_there script at call called =
     ⊎_elim
     (λ there. there.1)
-    (λ past.
-    let none : None ≡ Some call = subst (λ (o : Option Process). slice_get (option_map_or (λ (p : Process). p.calls) o []) at.call ≡ Some call) past.1 called in
-    absurd (none-some call none))
+    (λ past. absurd (none-some call (sym (ap (λ (o : Option Process). slice_get (option_map_or (λ (p : Process). p.calls) o []) at.call) past.1)
+    ∙ called)))
     (slice_get_cases script.processes at.process).1
 
+-- a call of a script within the limits is within them
+pub is_call : (script : Script) (at : At) (call : Call) → IsWithinLimits script → call_at script at ≡ Some call → IsCall call
+is_call script at call limits called = of_process (slice_get script.processes at.process) refl called
+  where
+    of_process : (o : Option Process) → slice_get script.processes at.process ≡ o →
+        slice_get (option_map_or (λ (p : Process). p.calls) o []) at.call ≡ Some call → IsCall call
+    of_process None none call_is = absurd (none-some call call_is)
+    of_process (Some p) is call_is =
+        All-slice_get IsCall p.calls at.call call (All-slice_get IsProcess script.processes at.process p limits.processes is).calls call_is
+
 -- a store to which the entries before led: the running call of each process is its next one, with the entries of that
-record IsLed (script : Script) (before : List Entry) (s : Store) : Type 0 where
+pub record IsLed (script : Script) (before : List Entry) (s : Store) : Type 0 where
   pub valid : Valid s
   pub rows : length s.work ≡ length script.processes
   pub ordered : IsOrdered script before
   pub running : (at : At) → IsNextCall script before at → work_of s at.process ≡ entries_of at before
-
--- whether a call with these entries is finished
-is_finished-called : (script : Script) (journal : List Entry) (at : At) (call : Call) → call_at script at ≡ Some call →
-    is_finished script journal at ≡ is_ended_by call (entries_of at journal)
-is_finished-called script journal at call called = ap (λ (o : Option Call). option_map_or (λ (c : Call). is_ended_by c (entries_of at journal)) o false) called
-
--- a call is the same as itself
-same_self : (at : At) → same_call at at ≡ true
-same_self at = and_from (nat_eq at.process at.process) (nat_eq at.call at.call) (eq-eqb at.process at.process refl) (eq-eqb at.call at.call refl)
 
 -- the entries of the call with the new one are those that the journal then has of it
 joined_work : (script : Script) (before : List Entry) (s : Store) (e : Entry) → IsLed script before s → IsNextCall script before (at_of e) →
@@ -83,13 +57,14 @@ joined_work script before s e led next =
     ap (λ (entries : List Entry). entries ++ e ∷ []) (led.running (at_of e) next) ∙ sym (entries_of-joined before e (at_of e) (same_self (at_of e)))
 
 -- the entry is the next one of its call
-next_entry : (script : Script) (before : List Entry) (s : Store) (call : Call) (e : Entry) → IsLed script before s →
+pub next_entry : (script : Script) (before : List Entry) (s : Store) (call : Call) (e : Entry) → IsLed script before s →
     ((rule : EntryRule) → FitsScript script before e rule) → call_at script (at_of e) ≡ Some call → IsNextEntry s call e
 next_entry script before s call e led fits called =
     let next : IsNextCall script before (at_of e) = fits NextCall in
     record {
       of_call =
-          subst (AreOfCall call []) (sym (joined_work script before s e led next)) ((ordered-push script before e led.ordered fits).of_call (at_of e) call called);
+          subst (AreOfCall (start_of call (at_of e))) (sym (joined_work script before s e led next))
+          ((ordered-push script before e led.ordered fits).of_call (at_of e) call called);
       unfinished = ap (is_ended_by call) (led.running (at_of e) next) ∙ sym (is_finished-called script before (at_of e) call called) ∙ next.unfinished;
     }
 
@@ -119,27 +94,15 @@ next_here script before s call e led next called number then =
     let another : same_call mine (numbered mine.process number) ≡ false =
     and_right (nat_eq mine.process mine.process) (nat_eq mine.call number) (ne_eqb mine.call number (λ same. omega arith)) in
     cond-true (is_ended_by call entries) [] entries finished
-    ∙ sym (entries_of-other before e (numbered mine.process number) another ∙ led.ordered.none_yet (numbered mine.process number) mine.call later next.unfinished)))
+    ∙ sym
+    (entries_of-other before e (numbered mine.process number) another ∙ led.ordered.none_yet (numbered mine.process number) mine.call later next.unfinished)))
     (cases_order number mine.call)
 
--- the next call of another process is as it was
-next_other : (script : Script) (before : List Entry) (e : Entry) (at : At) → at.process ≢ (at_of e).process → IsNextCall script (before ++ e ∷ []) at →
-    IsNextCall script before at × (entries_of at (before ++ e ∷ []) ≡ entries_of at before)
-next_other script before e at differ then =
-    let another : (call : ℕ) → same_call (at_of e) (numbered at.process call) ≡ false =
-    λ call. and_left (nat_eq (at_of e).process at.process) (nat_eq (at_of e).call call) (ne_eqb (at_of e).process at.process (λ same. differ (sym same))) in (
-      record {
-        in_script = then.in_script;
-        unfinished = sym (is_finished-other script before e at (another at.call)) ∙ then.unfinished;
-        earlier = λ call lt. sym (is_finished-other script before e (numbered at.process call) (another call)) ∙ then.earlier call lt;
-      },
-      entries_of-other before e at (another at.call),
-    )
-
 -- one more entry that is legal and in order
-led-push : (script : Script) (before : List Entry) (s : Store) (call : Call) (e : Entry) (t : Store) → IsLed script before s →
-    ((rule : EntryRule) → FitsScript script before e rule) → call_at script (at_of e) ≡ Some call → Step s call e t → IsLed script (before ++ e ∷ []) t
-led-push script before s call e t led fits called step =
+pub led-push : (script : Script) (before : List Entry) (s : Store) (call : Call) (e : Entry) (t : Store) → IsWithinLimits script → IsLed script before s →
+    ((rule : EntryRule) → FitsScript script before e rule) → call_at script (at_of e) ≡ Some call → Step s (place_in s call (at_of e)) e t →
+    IsLed script (before ++ e ∷ []) t
+led-push script before s call e t limits led fits called step =
     let mine = at_of e in
     let next : IsNextCall script before mine = fits NextCall in
     let entries = work_of s mine.process ++ e ∷ [] in
@@ -149,7 +112,7 @@ led-push script before s call e t led fits called step =
     let rows : length s.work ≡ length script.processes = led.rows in
     let within : mine.process < length s.work = omega arith in
     record {
-      valid = step_keeps_valid s call e t led.valid (next_entry script before s call e led fits called) step;
+      valid = step_keeps_valid s call e t led.valid (is_call script (at_of e) call limits called) (next_entry script before s call e led fits called) step;
       rows = ap (λ (x : List (List Entry)). length x) work ∙ length-set s.work mine.process row ∙ rows;
       ordered = ordered-push script before e led.ordered fits;
       running = λ at then.
@@ -162,17 +125,21 @@ led-push script before s call e t led fits called step =
           ∙ next_here script before s call e led next called at.call (subst (IsNextCall script (before ++ e ∷ [])) is then)
           ∙ ap (λ (a : At). entries_of a (before ++ e ∷ [])) (sym is))
           (λ differ.
-          let other = next_other script before e at differ then in
-          other_row s.work mine.process row at.process differ ∙ led.running at other.0 ∙ sym other.1)
+          get_or-set_other s.work mine.process at.process row [] differ
+          ∙ led.running at (next-other script before e at differ then)
+          ∙ sym (entries_of-other before e at (other_process (at_of e) at differ)))
           (cases_eq at.process mine.process);
     }
 
--- a legal journal in order, after these entries
-led_valid : (script : Script) (before : List Entry) (s : Store) (journal : List Entry) (t : Store) → IsLed script before s → Legal script s journal t →
-    InOrderFrom script before journal → Valid t
-led_valid script before s [] t led same order = subst Valid same led.valid
-led_valid script before s (e ∷ journal) t led legal order =
-    led_valid script (before ++ e ∷ []) legal.1 journal t (led-push script before s legal.0 e legal.1 led order.0 legal.2 legal.3) legal.4 order.1
+-- a store that leads to another by a legal journal in order
+led_on : (script : Script) (before : List Entry) (s : Store) (journal : List Entry) (t : Store) → IsWithinLimits script → IsLed script before s →
+    Legal script s journal t → InOrderFrom script before journal → IsLed script (before ++ journal) t
+led_on script before s [] t limits led same order =
+    subst (λ (all : List Entry). IsLed script all t) (sym (append-nil before)) (subst (IsLed script before) same led)
+led_on script before s (e ∷ journal) t limits led legal order =
+    subst (λ (all : List Entry). IsLed script all t) (append_assoc before (e ∷ []) journal)
+    (led_on script (before ++ e ∷ []) legal.1 journal t limits
+    (led-push script before s legal.0 e legal.1 limits led order.0 legal.2 legal.3) legal.4 order.1)
 
 -- no call has entries at the start
 none_at_start : (processes : List Process) (process : ℕ) →
@@ -182,13 +149,21 @@ none_at_start [] process = refl
 none_at_start (p ∷ processes) zero = refl
 none_at_start (p ∷ processes) (suc process) = none_at_start processes process
 
+pub led_at_start : (v : Volume) (script : Script) → IsSoundVolume v → IsWithinLimits script → IsLed script [] (start_store v script)
+led_at_start v script sound limits = record {
+  valid = start_is_valid v script sound limits;
+  rows = length-map script.processes (λ (p : Process). []);
+  ordered = ordered_at_start script;
+  running = λ at next. none_at_start script.processes at.process;
+}
+
+-- the store that a history leads to
+pub history_leads : (v : Volume) (script : Script) (journal : List Entry) (s : Store) → IsHistory v script journal s → IsLed script journal s
+history_leads v script journal s history =
+    led_on script [] (start_store v script) journal s history.limits (led_at_start v script history.sound history.limits) history.legal history.in_order
+
 pub histories_keep_valid : HistoriesKeepValid
-histories_keep_valid v script journal t sound legal order =
-    let led : IsLed script [] (start_store v script) =
-    record {
-      valid = start_is_valid v script sound;
-      rows = length-map script.processes (λ (p : Process). []);
-      ordered = ordered_at_start script;
-      running = λ at next. none_at_start script.processes at.process;
-    } in
-    led_valid script [] (start_store v script) journal t led legal order
+histories_keep_valid v script journal s history = (history_leads v script journal s history).valid
+
+pub work_is_of_running_call : WorkIsOfRunningCall
+work_is_of_running_call v script journal s at history next = (history_leads v script journal s history).running at next

@@ -5,7 +5,10 @@ use Rattle.std.proofs.lemmas.Option.{same_Some}
 use Rattle.bd_base.specs.declared.script.Call.{Call}
 use Rattle.bd_base.specs.declared.script.Script.{Script}
 use Rattle.bd_entry.specs.declared.entry.Entry.{Entry}
-use Rattle.bd_entry.specs.History.{InOrderFrom, Legal, Step, effect_of}
+use Rattle.bd_entry.specs.Calls.{at_of}
+use Rattle.bd_entry.specs.Effects.{effect_of}
+use Rattle.bd_entry.specs.History.{InOrderFrom, Legal, Step}
+use Rattle.bd_entry.specs.Rules.{place_in}
 use Rattle.bd_entry.specs.Laws.{InOrderInParts, LeadsToOneStore, LegalInParts}
 use Rattle.bd_entry.specs.Store.{Store}
 
@@ -52,10 +55,10 @@ in_order_in_parts script before front back =
 
 -- the call of an entry, and so the store after it, is determined
 same_next : (script : Script) (s : Store) (e : Entry) (called : Option Call) (c d : Call) (t u : Store) →
-    called ≡ Some c → called ≡ Some d → Step s c e t → Step s d e u → t ≡ u
+    called ≡ Some c → called ≡ Some d → Step s (place_in s c (at_of e)) e t → Step s (place_in s d (at_of e)) e u → t ≡ u
 same_next script s e called c d t u is_c is_d first second =
     let same : c ≡ d = same_Some c d (sym is_c ∙ is_d) in
-    first.after ∙ ap (λ (call : Call). effect_of s call e) same ∙ sym second.after
+    first.after ∙ ap (λ (call : Call). effect_of s (place_in s call (at_of e)) e) same ∙ sym second.after
 
 pub one_store : LeadsToOneStore
 one_store script s [] t u first second = sym first ∙ second

@@ -32,7 +32,8 @@ lowest_from k a zero low high = absurd (omega arith)
 lowest_from k a (suc m) low high =
     elim (nat_eq a k) as (λ b. nat_eq a k ≡ b → find (λ part. not (has_part part (range_with_len 0 k))) (range_with_len a (suc m)) ≡ Some k) [
       | true ↦ λ e. let same : a ≡ k = grind (arith, nat_tests) in rw (part_above a 0 k (omega arith)) (ap Some same)
-      | false ↦ λ e. let ne : a ≢ k = grind (arith, nat_tests) in rw (part_inside a 0 k (omega arith) (omega arith)) (lowest_from k (a + 1) m (omega arith) (omega arith))
+      | false ↦ λ e. let ne : a ≢ k = grind (arith, nat_tests) in rw (part_inside a 0 k (omega arith) (omega arith))
+          (lowest_from k (a + 1) m (omega arith) (omega arith))
     ] refl
 
 -- the lowest part that is not attached, where the first k of n are

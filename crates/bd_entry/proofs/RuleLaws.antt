@@ -1,12 +1,10 @@
 -- Rules by their numbers.
 use Rattle.std.specs.Prelude.{nat_eq, cond}
-use Rattle.std.proofs.Common.{◌≡◌, ℕ, ◌<◌, ◌≤◌, List, refl, sym, ap, ◌∙◌, subst, arith, ⊎_elim}
-use Rattle.std.proofs.lemmas.Bool.{cases_lt}
-use Rattle.bd_base.specs.declared.script.Script.{Script}
-use Rattle.bd_entry.specs.declared.entry.Entry.{Entry}
-use Rattle.bd_entry.specs.Laws.{NumbersDiffer, OneLeastRule}
-use Rattle.bd_entry.specs.Rules.{BreaksRule, EntryRule, NextCall, FitsCall, Once, RightWay, IsOpen, RightFile, Allowed, Rights, NoPlain, RightBlock, WithinLimit, RightBytes, NotRefused, entry_rule_number}
-use Rattle.bd_entry.specs.Store.{Store}
+use Rattle.std.proofs.Common.{◌≡◌, ℕ, ◌≤◌, refl, arith}
+use Rattle.bd_base.proofs.Rules.{all-or-least, numbers-differ, one-number}
+use Rattle.bd_entry.specs.Laws.{KeepsOrBreaks, NumbersDiffer, OneLeastRule}
+use Rattle.bd_entry.specs.Rules.{EntryRule, KeepsRule, NextCall, FitsCall, Once, RightWay, IsOpen, RightFile, Allowed, Rights, NoPlain, RightBlock, WithinLimit, RightBytes, NotRefused, entry_rule_number}
+use Rattle.bd_entry.proofs.DecidedRules.{decided-keeps_rule}
 
 -- the rule of a number
 abbrev rule_of : ℕ → EntryRule
@@ -31,19 +29,30 @@ back RightBytes = refl
 back NotRefused = refl
 
 pub numbers_differ : NumbersDiffer
-numbers_differ p q same = sym (back p) ∙ ap rule_of same ∙ back q
-
--- a broken rule has no number below the least
-not_below : (script : Script) (before : List Entry) (s : Store) (e : Entry) (m n : ℕ) →
-    BreaksRule script before s e m → BreaksRule script before s e n → n ≤ m
-not_below script before s e m n first second =
-    ⊎_elim
-    (λ below. absurd (first.broken (second.lesser first.rule (subst (λ (k : ℕ). k < n) (sym first.number_is) below))))
-    (λ above. above)
-    (cases_lt m n)
+numbers_differ = numbers-differ EntryRule entry_rule_number rule_of back
 
 pub one_least_rule : OneLeastRule
 one_least_rule script before s e m n first second =
-    let low : n ≤ m = not_below script before s e m n first second in
-    let high : m ≤ n = not_below script before s e n m second first in
-    omega arith
+    let Keeps : EntryRule → Type 0 = KeepsRule script before s e in
+    let Breaks : EntryRule → Type 0 = λ rule. ¬ Keeps rule in
+    one-number EntryRule entry_rule_number Keeps Breaks Breaks m n (λ rule broken. broken) (λ rule broken. broken) first second
+
+-- there are thirteen rules
+entry_rule_number-le : (rule : EntryRule) → entry_rule_number rule ≤ 13
+entry_rule_number-le NextCall = omega arith
+entry_rule_number-le FitsCall = omega arith
+entry_rule_number-le Once = omega arith
+entry_rule_number-le RightWay = omega arith
+entry_rule_number-le IsOpen = omega arith
+entry_rule_number-le RightFile = omega arith
+entry_rule_number-le Allowed = omega arith
+entry_rule_number-le Rights = omega arith
+entry_rule_number-le NoPlain = omega arith
+entry_rule_number-le RightBlock = omega arith
+entry_rule_number-le WithinLimit = omega arith
+entry_rule_number-le RightBytes = omega arith
+entry_rule_number-le NotRefused = omega arith
+
+pub keeps_or_breaks : KeepsOrBreaks
+keeps_or_breaks script before s e =
+    all-or-least EntryRule entry_rule_number rule_of (KeepsRule script before s e) 13 back entry_rule_number-le (decided-keeps_rule script before s e)

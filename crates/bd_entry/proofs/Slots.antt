@@ -1,7 +1,8 @@
 -- Rows of slots in which one slot is changed, and tests that no slot passes.
-use Rattle.std.proofs.Common.{◌≡◌, ◌≢◌, ℕ, ◌<◌, Bool, true, false, ◌||◌, List, [], ◌∷◌, ◌++◌, length, zero, suc, Option, Some, ◌⊎◌, inl, inr, refl, sym, ap, ◌∙◌, subst, arith, ⊎_elim}
-use Rattle.std.specs.Prelude.{slice_get, slice_index_or, slice_set}
+use Rattle.std.proofs.Common.{◌≡◌, ◌≢◌, ℕ, ◌<◌, Bool, false, List, [], ◌∷◌, ◌++◌, length, zero, suc, Option, None, Some, ◌⊎◌, inl, inr, refl, sym, ap, ◌∙◌, subst, arith, ⊎_elim}
+use Rattle.std.specs.Prelude.{slice_index_or, slice_set, IsSome}
 use Rattle.std.specs.List.{list_any}
+use Rattle.std.proofs.lemmas.Bool.{false≢true, or_parts}
 use Rattle.std.proofs.lemmas.List.Folds.{list_any-append}
 use Rattle.std.proofs.lemmas.Option.{none-some}
 use Rattle.bd_entry.specs.Store.{in_slot}
@@ -43,41 +44,46 @@ row_within [] j k x e = absurd (none-some x e)
 row_within (r ∷ rows) zero k x e = omega arith
 row_within (r ∷ rows) (suc j) k x e = let within : j < length rows = row_within rows j k x e in omega arith
 
--- a row with an element is there
-pub row_there : {X : Type 0} (rows : List (List X)) (j k : ℕ) (x : X) → slice_get (slice_index_or rows j []) k ≡ Some x → j < length rows
-row_there [] j k x e = absurd (none-some x e)
-row_there (r ∷ rows) zero k x e = omega arith
-row_there (r ∷ rows) (suc j) k x e = let within : j < length rows = row_there rows j k x e in omega arith
+-- a slot of a list that is there
+pub slot_within : {X : Type 0} (xs : List (Option X)) (i : ℕ) (x : X) → in_slot xs i ≡ Some x → i < length xs
+slot_within [] i x e = absurd (none-some x e)
+slot_within (y ∷ xs) zero x e = omega arith
+slot_within (y ∷ xs) (suc i) x e = let within : i < length xs = slot_within xs i x e in omega arith
 
-pub or_false : (a b : Bool) → (a || b) ≡ false → (a ≡ false) × (b ≡ false)
-or_false true b e = absurd (let no : ⊥ = cc in no)
-or_false false b e = (refl, e)
+-- what stands where something does
+pub some_of : {X : Type 0} (o : Option X) → IsSome o → (x : X) × (o ≡ Some x)
+some_of None h = absurd (false≢true h)
+some_of (Some x) h = (x, refl)
 
 -- no element passes the test, nor the new one
-pub none_set : {X : Type 0} (test : X → Bool) (xs : List X) (i : ℕ) (y : X) → list_any test xs ≡ false → test y ≡ false → list_any test (slice_set xs i y) ≡ false
+pub none_set : {X : Type 0} (test : X → Bool) (xs : List X) (i : ℕ) (y : X) → list_any test xs ≡ false → test y ≡ false →
+    list_any test (slice_set xs i y) ≡ false
 none_set test [] i y none new = refl
-none_set test (x ∷ xs) zero y none new = rw new (or_false (test x) (list_any test xs) none).1
+none_set test (x ∷ xs) zero y none new = rw new (or_parts (test x) (list_any test xs) none).1
 none_set test (x ∷ xs) (suc i) y none new =
-    let parts = or_false (test x) (list_any test xs) none in
+    let parts = or_parts (test x) (list_any test xs) none in
     rw parts.0 (none_set test xs i y parts.1 new)
 
 -- then no list of these has an element that passes
-pub none_row : {X : Type 0} (test : X → Bool) (rows : List (List X)) (j : ℕ) → list_any (list_any test) rows ≡ false → list_any test (slice_index_or rows j []) ≡ false
+pub none_row : {X : Type 0} (test : X → Bool) (rows : List (List X)) (j : ℕ) → list_any (list_any test) rows ≡ false →
+    list_any test (slice_index_or rows j []) ≡ false
 none_row test [] j none = refl
-none_row test (r ∷ rows) zero none = (or_false (list_any test r) (list_any (list_any test) rows) none).0
-none_row test (r ∷ rows) (suc j) none = none_row test rows j (or_false (list_any test r) (list_any (list_any test) rows) none).1
+none_row test (r ∷ rows) zero none = (or_parts (list_any test r) (list_any (list_any test) rows) none).0
+none_row test (r ∷ rows) (suc j) none = none_row test rows j (or_parts (list_any test r) (list_any (list_any test) rows) none).1
 
 -- nor what stands in a slot
-pub none_slot : {X : Type 0} (test : Option X → Bool) (xs : List (Option X)) (k : ℕ) (x : X) → list_any test xs ≡ false → in_slot xs k ≡ Some x → test (Some x) ≡ false
+pub none_slot : {X : Type 0} (test : Option X → Bool) (xs : List (Option X)) (k : ℕ) (x : X) → list_any test xs ≡ false → in_slot xs k ≡ Some x →
+    test (Some x) ≡ false
 none_slot test [] k x none e = absurd (none-some x e)
-none_slot test (y ∷ xs) zero x none e = subst (λ (slot : Option _). test slot ≡ false) e (or_false (test y) (list_any test xs) none).0
-none_slot test (y ∷ xs) (suc k) x none e = none_slot test xs k x (or_false (test y) (list_any test xs) none).1 e
+none_slot test (y ∷ xs) zero x none e = subst (λ (slot : Option _). test slot ≡ false) e (or_parts (test y) (list_any test xs) none).0
+none_slot test (y ∷ xs) (suc k) x none e = none_slot test xs k x (or_parts (test y) (list_any test xs) none).1 e
 
 -- no entry of a row passes the test where none does after one has joined a row
 pub none_before : {X : Type 0} (test : X → Bool) (rows : List (List X)) (i : ℕ) (y : X) (j : ℕ) →
-    list_any test (slice_index_or (slice_set rows i (slice_index_or rows i [] ++ y ∷ [])) j []) ≡ false → list_any test (slice_index_or rows j []) ≡ false
+    list_any test (slice_index_or (slice_set rows i (slice_index_or rows i [] ++ y ∷ [])) j []) ≡ false →
+    list_any test (slice_index_or rows j []) ≡ false
 none_before test [] i y j none = none
-none_before test (r ∷ rows) zero y zero none = (or_false (list_any test r) (list_any test (y ∷ [])) (sym (list_any-append test r (y ∷ [])) ∙ none)).0
+none_before test (r ∷ rows) zero y zero none = (or_parts (list_any test r) (list_any test (y ∷ [])) (sym (list_any-append test r (y ∷ [])) ∙ none)).0
 none_before test (r ∷ rows) zero y (suc j) none = none
 none_before test (r ∷ rows) (suc i) y zero none = none
 none_before test (r ∷ rows) (suc i) y (suc j) none = none_before test rows i y j none
@@ -87,13 +93,5 @@ pub none_joined : {X : Type 0} (test : X → Bool) (rows : List (List X)) (i : �
     list_any test (slice_index_or (slice_set rows i (slice_index_or rows i [] ++ y ∷ [])) i []) ≡ false → test y ≡ false
 none_joined test [] i y lt none = absurd (omega arith)
 none_joined test (r ∷ rows) zero y lt none =
-    (or_false (test y) false (or_false (list_any test r) (list_any test (y ∷ [])) (sym (list_any-append test r (y ∷ [])) ∙ none)).1).0
+    (or_parts (test y) false (or_parts (list_any test r) (list_any test (y ∷ [])) (sym (list_any-append test r (y ∷ [])) ∙ none)).1).0
 none_joined test (r ∷ rows) (suc i) y lt none = none_joined test rows i y (omega arith) none
-
--- another row is as it was
-pub other_row : {X : Type 0} (rows : List (List X)) (i : ℕ) (row : List X) (j : ℕ) → j ≢ i → slice_index_or (slice_set rows i row) j [] ≡ slice_index_or rows j []
-other_row [] i row j ne = refl
-other_row (r ∷ rows) zero row zero ne = absurd (ne refl)
-other_row (r ∷ rows) zero row (suc j) ne = refl
-other_row (r ∷ rows) (suc i) row zero ne = refl
-other_row (r ∷ rows) (suc i) row (suc j) ne = other_row rows i row j (λ same. ne (ap suc same))

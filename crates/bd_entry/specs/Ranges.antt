@@ -1,17 +1,18 @@
 -- The range of each number of an entry.
 use Rattle.std.specs.Prelude.{ℕ, ◌<◌, ◌≤◌, Option, None, Some, List, length, All}
+use Rattle.bd_base.specs.Bounds.{Bounds}
 use Rattle.bd_base.specs.Bytes.{AreBytes}
 use Rattle.bd_base.specs.Names.{IsName}
 use Rattle.bd_base.specs.declared.journal.At.{At}
 use Rattle.bd_base.specs.declared.journal.Found.{Found}
 use Rattle.bd_base.specs.declared.journal.Found.TheVariants.{Beyond}
-use Rattle.bd_base.specs.declared.limits.TheConstants.{BLOCKS, BLOCK_SIZE, CALLS, DESCRIPTORS, FILES, FILE_SIZE, PARTS, PROCESSES}
+use Rattle.bd_base.specs.declared.limits.TheConstants.{BLOCKS, BLOCK_SIZE, CALLS, DESCRIPTORS, FILES, FILE_SIZE, LAST_INDEX, PARTS, PIECES, POLICY_RULES, PROCESSES}
 use Rattle.bd_base.specs.declared.reason.Reason.{Reason}
 use Rattle.bd_base.specs.declared.reason.Reason.TheVariants.{Denied, OpenBy, KernelOpen}
 use Rattle.bd_entry.specs.Calls.{at_of}
 use Rattle.bd_entry.specs.declared.entry.Entry.{Entry}
 use Rattle.bd_entry.specs.declared.entry.Entry.TheVariants.{Opened, Created, Attached, Mapped, Cleared, Detached, Access, Missed, Extended, Released, Sized, SizeRead, Closed, Unlinked, Refused}
-use Rattle.bd_entry.specs.declared.limits.TheConstants.{ASKED_PERMS, LAST_INDEX, PIECES, POLICY_RULES}
+use Rattle.bd_entry.specs.declared.limits.TheConstants.{ASKED_PERMS}
 
 -- a process and the number of a call
 pub record IsAt (at : At) : Type 0 where
@@ -22,6 +23,14 @@ pub record IsAt (at : At) : Type 0 where
 abbrev pub IsOptional : ℕ → Option ℕ → Type 0
 IsOptional below None = Unit {0}
 IsOptional below (Some n) = n < below
+
+-- a range of a block: some bytes
+abbrev pub IsRange : Bounds → Type 0
+IsRange r = (r.lo < r.hi) × (r.hi ≤ BLOCK_SIZE)
+
+-- bytes of one block at most
+abbrev pub IsBytes : List ℕ → Type 0
+IsBytes bytes = AreBytes bytes × (length bytes ≤ BLOCK_SIZE)
 
 -- a walk finds at least one byte of a block, and at most all
 abbrev pub IsFound : Found → Type 0
@@ -44,8 +53,8 @@ IsInRange (Mapped at fd count) = (fd < DESCRIPTORS) × (count ≤ PARTS)
 IsInRange (Cleared at owner fd part) = (owner < PROCESSES) × (fd < DESCRIPTORS) × (part < PARTS)
 IsInRange (Detached at owner fd part) = (owner < PROCESSES) × (fd < DESCRIPTORS) × (part < PARTS)
 IsInRange (Access at piece fd file index block range wrote way bytes) =
-    (piece < PIECES) × (fd < DESCRIPTORS) × (file < FILES) × (index ≤ LAST_INDEX) × IsOptional BLOCKS block × (range.lo < range.hi)
-    × (range.hi ≤ BLOCK_SIZE) × AreBytes bytes × (length bytes ≤ BLOCK_SIZE)
+    (piece < PIECES) × (fd < DESCRIPTORS) × (file < FILES) × (index ≤ LAST_INDEX) × IsOptional BLOCKS block
+    × IsRange range × IsBytes bytes
 IsInRange (Missed at piece found) = (piece < PIECES) × IsFound found
 IsInRange (Extended at file to block) = (file < FILES) × (to ≤ FILE_SIZE) × IsOptional BLOCKS block
 IsInRange (Released at file index block) = (file < FILES) × (index ≤ LAST_INDEX) × (block < BLOCKS)

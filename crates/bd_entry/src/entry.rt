@@ -1,4 +1,7 @@
 //! What a journal tells, entry by entry.
+ghost use Rattle.std.specs.Prelude.{◌≡◌};
+ghost use Rattle.bd_entry.specs.Calls.{at_of};
+
 use bd_base::{
     At, BlockNo, Bytes, Fd, FileId, Found, How, List, Mode, Name, Part, Pid, Range, Reason, Way,
 };
@@ -114,3 +117,26 @@ pub enum Entry {
 
 /// The entries in order.
 pub type EntryList = List<Entry>;
+
+/// The call that an entry belongs to.
+pub fn at_of(entry: &Entry) -> At
+    ensures { result ≡ at_of entry.now }
+{
+    match entry {
+        Entry::Opened { at, .. }
+        | Entry::Created { at, .. }
+        | Entry::Attached { at, .. }
+        | Entry::Mapped { at, .. }
+        | Entry::Cleared { at, .. }
+        | Entry::Detached { at, .. }
+        | Entry::Access { at, .. }
+        | Entry::Missed { at, .. }
+        | Entry::Extended { at, .. }
+        | Entry::Released { at, .. }
+        | Entry::Sized { at, .. }
+        | Entry::SizeRead { at, .. }
+        | Entry::Closed { at, .. }
+        | Entry::Unlinked { at, .. }
+        | Entry::Refused { at, .. } => *at,
+    }
+}

@@ -1,13 +1,10 @@
-//! The limits of what an entry tells, beside those of the machine.
+//! The limit of what an entry tells, beside those of the machine.
+ghost use Rattle.std.specs.Prelude.{◌≡◌};
 
-/// How many pieces a call may have.
-pub const PIECES: u64 = 5;
-
-/// The greatest number of a block in its file.
-pub const LAST_INDEX: u64 = 268_435_459;
-
-/// How many rules the policy has.
-pub const POLICY_RULES: u64 = 5;
-
-/// Where the permissions that a call asks for end.
+/// Where the permissions of a created file end, as a line of a journal may tell them.
 pub const ASKED_PERMS: u64 = 256;
+
+/// What this limit is. The call does nothing: its contract is the law.
+pub fn entry_limits()
+    ensures perms { ASKED_PERMS ≡ 256 }
+{}

@@ -1,30 +1,32 @@
 //! Reading a text into a journal.
-ghost use Rattle.std.specs.Prelude.{◌≡◌, ◌≢◌, ℕ, ◌++◌, ◌∷◌, List, MatchOption, IfOk, IfErr};
-ghost use Rattle.std.specs.Fmt.{decimal};
-ghost use Rattle.bd_base.specs.declared.journal.At.{At};
-ghost use Rattle.bd_entry.specs.Ranges.{AreEntries, IsAt, IsEntry};
-ghost use Rattle.bd_entry.specs.Reading.{IsAfterReport, IsRefused, Reads};
-ghost use Rattle.bd_entry.specs.Texts.{before, entry_text, header, journal_text, word_text};
-ghost use Rattle.bd_entry.specs.declared.words.Word.{Word};
+ghost use Rattle.std.specs.Prelude.{◌≡◌, ◌++◌, ◌∷◌, IfSome, IfNone, IfOk, IfErr};
+ghost use Rattle.bd_blocks.specs.Texts.{HasFirst, HasNoFirst, Reads};
+ghost use Rattle.bd_blocks.specs.declared.text.TheConstants.{LF};
+ghost use Rattle.bd_entry.specs.Ranges.{AreEntries, IsEntry};
+ghost use Rattle.bd_entry.specs.Reading.{HasAtFirst, HasNoAtFirst, IsAfterReport, RefusesJournal};
+ghost use Rattle.bd_entry.specs.Texts.{entry_text, header, journal_text, word_text};
 
 mod fields;
-mod kinds;
+pub mod kinds;
 mod numbers;
 mod reasons;
 
 use crate::entry::{Entry, EntryList};
 use crate::error::JournalError;
 use crate::read::kinds::read_fields;
-use crate::read::numbers::{front_two, split_at_byte};
+use crate::read::numbers::front_number;
 use crate::words::{Word, read_word};
 use bd_base::{At, CALLS, List, OutOfMemory, PROCESSES, Pid};
+use bd_blocks::text::{LF, SPACE, split_at_byte};
 use std::alloc::Global;
 
 // The call at the front of a line, and what follows it.
 fn front_at(text: &[u8]) -> Option<(At, &[u8])>
-    ensures { MatchOption result ((at : At) (rest : List ℕ) → IsAt at → text.now ≢ before (decimal at.process) (before (decimal at.call) rest)) (λ f. IsAt f.0 × (text.now ≡ before (decimal f.0.process) (before (decimal f.0.call) f.1.now))) }
+    ensures some { IfSome result (λ f. HasAtFirst text.now f.0 f.1.now) }
+    ensures none { IfNone result (HasNoAtFirst text.now) }
 {
-    let (process, call, rest) = front_two(text, PROCESSES - 1, CALLS - 1)?;
+    let (process, rest) = front_number(text, PROCESSES - 1)?;
+    let (call, rest) = front_number(rest, CALLS - 1)?;
     let at = At {
         process: Pid::new(process)?,
         call: call as u16,
@@ -34,9 +36,10 @@ fn front_at(text: &[u8]) -> Option<(At, &[u8])>
 
 // The word in the first field of a text, and what follows the field.
 fn front_word(text: &[u8]) -> Option<(Word, &[u8])>
-    ensures { MatchOption result ((w : Word) (rest : List ℕ) → text.now ≢ before (word_text w) rest) (λ f. text.now ≡ before (word_text f.0) f.1.now) }
+    ensures some { IfSome result (λ f. HasFirst word_text (λ _. Unit {0}) text.now f.0 f.1.now) }
+    ensures none { IfNone result (HasNoFirst word_text (λ _. Unit {0}) text.now) }
 {
-    let (field, rest) = split_at_byte(text, b' ')?;
+    let (field, rest) = split_at_byte(text, SPACE)?;
     Some((read_word(field)?, rest))
 }
 
@@ -55,14 +58,15 @@ pub fn read_entry(alloc: Global, line: &[u8]) -> Result<Option<Entry>, OutOfMemo
 
 // Reads the lines after the first.
 fn read_lines(alloc: Global, text: &[u8]) -> Result<EntryList, JournalError>
-    ensures ok { IfOk result (λ entries. AreEntries entries × (header ++ 10 ∷ text.now ≡ journal_text entries)) }
-    ensures refused { IfErr result (IsRefused (header ++ 10 ∷ text.now)) }
+    ensures entries { IfOk result AreEntries }
+    ensures text { IfOk result (λ entries. header ++ LF ∷ text.now ≡ journal_text entries) }
+    ensures refused { IfErr result (RefusesJournal (header ++ LF ∷ text.now)) }
 {
     let mut entries = List::new(alloc);
     let mut number = 2;
     let mut rest = text;
     while !rest.is_empty() {
-        let Some((line, next)) = split_at_byte(rest, b'\n') else {
+        let Some((line, next)) = split_at_byte(rest, LF) else {
             return Err(JournalError::BadJournal { line: number });
         };
         let Some(entry) = read_entry(alloc, line)? else {
@@ -79,8 +83,9 @@ fn read_lines(alloc: Global, text: &[u8]) -> Result<EntryList, JournalError>
 ///
 /// `BadJournal` tells the number, from 1, of the first line that has no reading.
 pub fn read_journal(alloc: Global, bytes: &[u8]) -> Result<EntryList, JournalError>
-    ensures ok { IfOk result (λ entries. AreEntries entries × (bytes.now ≡ journal_text entries)) }
-    ensures refused { IfErr result (IsRefused bytes.now) }
+    ensures entries { IfOk result AreEntries }
+    ensures text { IfOk result (λ entries. bytes.now ≡ journal_text entries) }
+    ensures refused { IfErr result (RefusesJournal bytes.now) }
 {
     let Some(rest) = bytes.strip_prefix(b"bypassd-journal 1\n".as_slice()) else {
         return Err(JournalError::BadJournal { line: 1 });
@@ -94,7 +99,7 @@ pub fn after_report(bytes: &[u8]) -> usize
 {
     let mut place = 0;
     let mut rest = bytes;
-    while let Some((line, next)) = split_at_byte(rest, b'\n') {
+    while let Some((line, next)) = split_at_byte(rest, LF) {
         if line == b"bypassd-journal 1".as_slice() {
             return place;
         }

@@ -1,6 +1,5 @@
 //! Journals that are written and read, and texts that are none.
-use crate::{JournalError, after_report, print_journal, push_found, push_reason, read_journal};
-use bd_base::{Found, Reason};
+use crate::{JournalError, after_report, print_journal, read_journal};
 use std::alloc::Global;
 use std::process::Abort;
 use std::test::Fail;
@@ -181,13 +180,4 @@ fn finds_the_journal(rt: HostRuntime) {
     ] {
         assert_eq!(rt; after_report(text.as_bytes()), place, "in {text:?}");
     }
-}
-
-#[test]
-fn writes_reasons(rt: HostRuntime) -> Result<(), Fail> {
-    let mut text = Vec::new(rt.alloc());
-    push_reason(&mut text, Reason::Denied(4))?;
-    push_found(&mut text, Found::Beyond(7))?;
-    assert_eq!(rt; text.as_slice(), b"denied 4beyond 7".as_slice());
-    Ok(())
 }

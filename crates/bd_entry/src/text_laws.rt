@@ -7,12 +7,14 @@ ghost use Rattle.bd_entry.specs.declared.entry.Entry.{Entry};
 
 /// A text is that of one journal at most.
 pub fn one_journal()
-    ensures { (j k : List Entry) → AreEntries j → AreEntries k → journal_text j ≡ journal_text k → j ≡ k }
+    ensures { (j k : List Entry) → AreEntries j → AreEntries k → journal_text j ≡ journal_text k
+        → j ≡ k }
 {}
 
 /// A bad text is that of no journal.
 pub fn bad_is_no_journal()
-    ensures { (text : List ℕ) (line : ℕ) → IsBadJournal text line → (j : List Entry) → AreEntries j → text ≢ journal_text j }
+    ensures { (text : List ℕ) (line : ℕ) → IsBadJournal text line
+        → (j : List Entry) → AreEntries j → text ≢ journal_text j }
 {}
 
 /// A text has one bad line at most.

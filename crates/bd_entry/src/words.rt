@@ -1,6 +1,6 @@
 //! The words that tell what an entry is about.
-ghost use Rattle.std.specs.Prelude.{◌≡◌, ◌≢◌, MatchOption};
-ghost use Rattle.bd_entry.specs.declared.words.Word.{Word};
+ghost use Rattle.std.specs.Prelude.{◌≡◌};
+ghost use Rattle.bd_blocks.specs.Texts.{Reads};
 ghost use Rattle.bd_entry.specs.Texts.{word_of, word_text};
 
 use crate::entry::Entry;
@@ -27,7 +27,7 @@ pub enum Word {
 
 /// The word that a text is.
 pub fn read_word(text: &[u8]) -> Option<Word>
-    ensures { MatchOption result ((w : Word) → text.now ≢ word_text w) (λ w. text.now ≡ word_text w) }
+    ensures { Reads word_text (λ _. Unit {0}) text.now result }
 {
     match text {
         b"opened" => Some(Word::Opened),
@@ -50,7 +50,7 @@ pub fn read_word(text: &[u8]) -> Option<Word>
 }
 
 /// The text of a word.
-pub fn spelled(word: Word) -> &'static [u8]
+pub fn word_bytes(word: Word) -> &'static [u8]
     ensures { result.now ≡ word_text word }
 {
     match word {

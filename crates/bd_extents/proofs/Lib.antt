@@ -1,3 +1,3 @@
-pub mod Lowest
+-- Lemmas on lists of extents, and on marks as a set.
+pub mod ExtentLists
 pub mod Marks
-pub mod Runs

@@ -1,6 +1,6 @@
 //! Marks on numbers, one bit each, in words of 64 bits.
-ghost use Rattle.std.specs.Prelude.{◌≡◌, ℕ, ◌+◌, ◌*◌, ◌/◌, ◌<◌, ◌≤◌, false, true, not, ◌&&◌, ◌||◌, nat_eq, length, MatchOption};
-ghost use Rattle.bd_extents.specs.Bitmap.{is_marked};
+ghost use Rattle.std.specs.Prelude.{◌≡◌, ℕ, ◌*◌, ◌<◌, ◌≤◌, not, ◌&&◌, ◌||◌, nat_eq, length, slice_index, IfSome, MatchOption};
+ghost use Rattle.bd_extents.specs.Bitmap.{IsLowestMark, NoneMarked, NoneMarkedBefore, is_marked};
 
 /// How many numbers a word marks.
 pub const WORD_BITS: usize = 64;
@@ -31,20 +31,32 @@ pub fn unmark(words: &mut [u64], number: usize)
     *word &= !(1 << (number % WORD_BITS));
 }
 
-/// The lowest marked number. No number of a word before `first_word` may be marked.
-pub fn lowest_mark(words: &[u64], first_word: usize) -> Option<usize>
-    requires none_before { (n : ℕ) → n < 64 * first_word → is_marked words.now n ≡ false }
-    requires in_range { length words.now ≤ 256 }
-    ensures lowest { MatchOption result
-        ((n : ℕ) → is_marked words.now n ≡ false)
-        (λ number. (is_marked words.now number ≡ true) × ((n : ℕ) → n < number → is_marked words.now n ≡ false)) }
-    ensures within { MatchOption result Unit (λ number. number < 64 * length words.now) }
+/// The first word from `start` on that has a mark; a later number than that of the last word where there is none. No
+/// number of a word before `start` may be marked.
+pub fn first_marked_word(words: &[u64], start: usize) -> usize
+    requires { NoneMarkedBefore words.now start }
+    ensures none_before { NoneMarkedBefore words.now result }
+    ensures marked { result < length words.now → 0 < slice_index words.now result }
 {
-    for index in first_word..words.len() {
-        let word = words[index];
-        if word != 0 {
-            return Some(WORD_BITS * index + word.trailing_zeros() as usize);
+    for index in start..words.len() {
+        if words[index] != 0 {
+            return index;
         }
     }
-    None
+    start.max(words.len())
+}
+
+/// The lowest marked number. No number of a word before `first_word` may be marked.
+pub fn lowest_mark(words: &[u64], first_word: usize) -> Option<usize>
+    requires none_before { NoneMarkedBefore words.now first_word }
+    requires in_range { length words.now ≤ 256 }
+    ensures lowest { MatchOption result (NoneMarked words.now) (IsLowestMark words.now) }
+    ensures within { IfSome result (λ number. number < 64 * length words.now) }
+{
+    let index = first_marked_word(words, first_word);
+    if index < words.len() {
+        Some(WORD_BITS * index + words[index].trailing_zeros() as usize)
+    } else {
+        None
+    }
 }

@@ -3,40 +3,40 @@ ghost use Rattle.std.specs.Prelude.{◌≡◌, ℕ, ◌+◌, ◌≤◌, List, �
 ghost use Rattle.std.specs.List.{range_with_len};
 ghost use Rattle.bd_base.specs.declared.limits.TheConstants.{BLOCKS};
 ghost use Rattle.bd_base.specs.declared.volume.Extent.{Extent};
-ghost use Rattle.bd_base.specs.Extents.{AreMaximal, blocks_of as blocks_in, extents_of as maximal_runs};
+ghost use Rattle.bd_base.specs.Extents.{AreMaximal, blocks_of, extents_of};
 
 use bd_base::{BlockList, BlockNo, Extent, ExtentList, List, OutOfMemory};
 use std::alloc::Global;
 
-/// The maximal runs of `blocks`, in order.
+/// The extents of `blocks` in order, each as long as can be.
 ///
 /// The only error is that no memory is found.
 pub fn extents_of(alloc: Global, blocks: &[BlockNo]) -> Result<ExtentList, OutOfMemory>
-    ensures { IfOk result (λ extents. extents ≡ maximal_runs blocks.now) }
+    ensures { IfOk result (λ extents. extents ≡ extents_of blocks.now) }
 {
     let mut extents: ExtentList = List::new(alloc);
     let Some((first, rest)) = blocks.split_first() else {
         return Ok(extents);
     };
     let first = *first;
-    let mut run = Extent {
+    let mut last = Extent {
         start: first.get() as u32,
         length: 1,
     };
     for block in rest {
         let block = *block;
         let number = block.get() as u32;
-        if number == run.start + run.length {
-            run.length += 1;
+        if number == last.start + last.length {
+            last.length += 1;
         } else {
-            extents.push(run)?;
-            run = Extent {
+            extents.push(last)?;
+            last = Extent {
                 start: number,
                 length: 1,
             };
         }
     }
-    extents.push(run)?;
+    extents.push(last)?;
     Ok(extents)
 }
 
@@ -45,7 +45,7 @@ pub fn extents_of(alloc: Global, blocks: &[BlockNo]) -> Result<ExtentList, OutOf
 /// The only error is that no memory is found.
 pub fn blocks_of(alloc: Global, extents: &[Extent]) -> Result<BlockList, OutOfMemory>
     requires { All (λ e. e.start + e.length ≤ BLOCKS) extents.now }
-    ensures { IfOk result (λ blocks. blocks ≡ blocks_in extents.now) }
+    ensures { IfOk result (λ blocks. blocks ≡ blocks_of extents.now) }
 {
     let mut blocks: BlockList = List::new(alloc);
     for extent in extents {
@@ -66,12 +66,13 @@ fn push_blocks(blocks: &mut BlockList, extent: Extent) -> Result<(), OutOfMemory
     Ok(())
 }
 
-/// Maximal runs and blocks say the same: each list of blocks comes back from its runs, and each
-/// list of maximal runs from its blocks. It does nothing.
+/// Extents and blocks say the same: each list of blocks comes back from its extents, and each list of extents that are
+/// as long as can be from its blocks. It does nothing.
 pub fn extents_are_inverse()
-    ensures blocks_come_back { (blocks : List ℕ) → blocks_in (maximal_runs blocks) ≡ blocks }
-    ensures runs_are_maximal { (blocks : List ℕ) → AreMaximal (maximal_runs blocks) }
-    ensures extents_come_back { (extents : List Extent) → AreMaximal extents → maximal_runs (blocks_in extents) ≡ extents }
+    ensures blocks_come_back { (blocks : List ℕ) → blocks_of (extents_of blocks) ≡ blocks }
+    ensures extents_are_maximal { (blocks : List ℕ) → AreMaximal (extents_of blocks) }
+    ensures extents_come_back { (extents : List Extent) → AreMaximal extents →
+        extents_of (blocks_of extents) ≡ extents }
 {}
 
 #[cfg(test)]

@@ -1,10 +1,11 @@
 //! The set of free blocks, a bitmap with a hint.
-ghost use Rattle.std.specs.Prelude.{◌≡◌, ℕ, ◌<◌, ◌≤◌, ◌↔◌, false, true, IfOk, IfSome, IfNone, IsNone};
+ghost use Rattle.std.specs.Prelude.{◌≡◌, ◌<◌, ◌≤◌, ◌↔◌, false, true, IfOk, IfSome, IfNone, IsNone};
 ghost use Rattle.std.specs.FinSet as set;
 ghost use Rattle.bd_base.specs.declared.limits.TheConstants.{BLOCKS};
-ghost use Rattle.bd_base.specs.Allocation.{allocated, free_block_after, lowest_free};
+ghost use Rattle.bd_base.specs.Allocation.{allocated_block, free_block_after, lowest_free};
+ghost use Rattle.bd_extents.specs.FreeBlocks.{TakesLowest, TakesNext, without_block};
 
-use crate::bitmap::{WORD_BITS, has_mark, lowest_mark, mark, unmark};
+use crate::bitmap::{WORD_BITS, first_marked_word, has_mark, lowest_mark, mark, unmark};
 use bd_base::{BlockNo, OutOfMemory};
 use std::alloc::Global;
 use std::marker::Model;
@@ -54,32 +55,41 @@ impl FreeSet {
     /// Takes the block after `after` where that is free, else the lowest free block: None exactly
     /// where no block is free.
     pub fn take(&mut self, after: Option<BlockNo>) -> Option<BlockNo>
-        ensures block { result ≡ allocated (set.contains self.old.free) self.old.total after }
+        ensures block { result ≡ allocated_block (set.contains self.old.free) self.old.total after }
+        ensures next { TakesNext self.old after result }
+        ensures lowest { TakesLowest self.old after result }
         ensures none { IsNone result ↔ (self.old.free ≡ set.empty) }
         ensures free { IfSome result (λ b. set.contains self.old.free b ≡ true) }
-        ensures taken { IfSome result (λ b. self.new ≡ record self.old { free = set.remove self.old.free b }) }
+        ensures taken { IfSome result (λ b. self.new ≡ without_block self.old b) }
         ensures unchanged { IfNone result (self.new ≡ self.old) }
     {
-        if let Some(block) = self.next(after) {
-            self.take_out(block);
-            return Some(block);
-        }
-        let lowest = self.lowest()?;
-        self.take_out(lowest);
-        self.skip_words_before(lowest);
-        Some(lowest)
+        let block = self.peek(after)?;
+        self.remove(block);
+        Some(block)
     }
 
     /// What [`FreeSet::take`] would take.
     pub fn peek(&self, after: Option<BlockNo>) -> Option<BlockNo>
-        ensures block { result ≡ allocated (set.contains self.now.free) self.now.total after }
+        ensures block { result ≡ allocated_block (set.contains self.now.free) self.now.total after }
+        ensures next { TakesNext self.now after result }
+        ensures lowest { TakesLowest self.now after result }
         ensures none { IsNone result ↔ (self.now.free ≡ set.empty) }
         ensures free { IfSome result (λ b. set.contains self.now.free b ≡ true) }
+        ensures below_total { IfSome result (λ b. b < self.now.total) }
     {
         match self.next(after) {
             Some(block) => Some(block),
             None => self.lowest(),
         }
+    }
+
+    /// Makes `block` no longer free, where it is.
+    pub fn remove(&mut self, block: BlockNo)
+        requires { block < self.old.total }
+        ensures { self.new ≡ without_block self.old block }
+    {
+        self.take_mark(block);
+        self.skip_empty_words();
     }
 
     /// Makes `block` free.
@@ -97,6 +107,7 @@ impl FreeSet {
     fn next(&self, after: Option<BlockNo>) -> Option<BlockNo>
         ensures value { result ≡ free_block_after (set.contains self.now.free) after }
         ensures free { IfSome result (λ b. set.contains self.now.free b ≡ true) }
+        ensures below_total { IfSome result (λ b. b < self.now.total) }
     {
         let number = after?.get() + 1;
         if number < u64::from(self.total) && has_mark(&self.words, number as usize) {
@@ -115,21 +126,19 @@ impl FreeSet {
         BlockNo::new(number as u64)
     }
 
-    /// Takes a free block out of the set.
-    fn take_out(&mut self, block: BlockNo)
-        requires { set.contains self.old.free block ≡ true }
-        ensures { self.new ≡ record self.old { free = set.remove self.old.free block } }
+    /// Takes the mark of a block away.
+    fn take_mark(&mut self, block: BlockNo)
+        requires { block < self.old.total }
+        ensures { self.new ≡ without_block self.old block }
     {
         unmark(&mut self.words, block.get() as usize);
     }
 
-    /// Lets searches begin at the word of `block`, before which no block is free.
-    fn skip_words_before(&mut self, block: BlockNo)
-        requires below_total { block < self.old.total }
-        requires none_before { (n : ℕ) → n < block → set.contains self.old.free n ≡ false }
+    /// Lets searches begin at the first word with a mark.
+    fn skip_empty_words(&mut self)
         ensures { self.new ≡ self.old }
     {
-        self.first_word = block.get() as usize / WORD_BITS;
+        self.first_word = first_marked_word(&self.words, self.first_word);
     }
 }
 

@@ -1,6 +1,6 @@
+-- Lemmas on files as lists, on what a file system keeps of them, and on a volume without files.
 pub mod Changes
-pub mod Counts
-pub mod FileLists
+pub mod Denials
 pub mod Growth
 pub mod Images
 pub mod Loading

@@ -13,15 +13,21 @@ abbrev pub has_bytes : {K : Type 0} → (K → List ℕ) → List ℕ → K → 
 has_bytes text bs key = bytes_eq bs (text key)
 
 module _ {K X : Type 0} (text : K → List ℕ) where
-  others : (bs : List ℕ) (old new : List (K × X)) → KeepsOthers (λ x y. bytes_eq (text x) (text y)) (has_bytes text bs) old new → (cs : List ℕ) → bytes_eq bs cs ≡ false → lookup (has_bytes text cs) new ≡ lookup (has_bytes text cs) old
+  others : (bs : List ℕ) (old new : List (K × X))
+      → KeepsOthers (λ x y. bytes_eq (text x) (text y)) (has_bytes text bs) old new → (cs : List ℕ)
+      → bytes_eq bs cs ≡ false → lookup (has_bytes text cs) new ≡ lookup (has_bytes text cs) old
   unfolding KeepsOthers
   others bs old new keeps cs differ =
       keeps (has_bytes text cs) (λ x y. nat_list_eq_equiv.congr cs (text x) (text y)) (λ key. apart bs cs (text key) differ)
 
   -- what is found after a change at one key: the new value there, and what was found before elsewhere
-  pub lookup-changed : (bs : List ℕ) (old new : List (K × X)) (value : Option X) → KeepsOthers (λ x y. bytes_eq (text x) (text y)) (has_bytes text bs) old new → lookup (has_bytes text bs) new ≡ value → (cs : List ℕ) → lookup (has_bytes text cs) new ≡ cond (bytes_eq bs cs) value (lookup (has_bytes text cs) old)
+  pub lookup-changed : (bs : List ℕ) (old new : List (K × X)) (value : Option X)
+      → KeepsOthers (λ x y. bytes_eq (text x) (text y)) (has_bytes text bs) old new
+      → lookup (has_bytes text bs) new ≡ value → (cs : List ℕ)
+      → lookup (has_bytes text cs) new ≡ cond (bytes_eq bs cs) value (lookup (has_bytes text cs) old)
   lookup-changed bs old new value keeps here cs =
       elim (cases_Bool (bytes_eq bs cs)) [
-        | inl same ↦ subst (λ l. lookup (has_bytes text l) new ≡ value) ((bytes_decides bs cs).0 same) here ∙ sym (cond-true (bytes_eq bs cs) value _ same)
+        | inl same ↦ subst (λ l. lookup (has_bytes text l) new ≡ value) ((bytes_decides bs cs).0 same) here
+            ∙ sym (cond-true (bytes_eq bs cs) value _ same)
         | inr differ ↦ others bs old new keeps cs differ ∙ sym (cond-false (bytes_eq bs cs) value _ differ)
       ]

@@ -4,7 +4,7 @@ use Rattle.std.proofs.lemmas.Bool.{cases_lt}
 use Rattle.std.proofs.lemmas.List.{get_or-replicate, get_or_past, length-replicate}
 use Rattle.std.proofs.lemmas.List.Sums.{sum_by-cons}
 use Rattle.std.proofs.lemmas.Option.{none-some}
-use Rattle.bd_base.specs.declared.limits.TheConstants.{BLOCKS}
+use Rattle.bd_base.specs.declared.limits.TheConstants.{BLOCKS, FILES}
 use Rattle.bd_base.specs.Allocation.{times_listed}
 use Rattle.bd_base.specs.Inodes.{AreValidFiles, block_lists, inode_at}
 
@@ -22,7 +22,7 @@ nothing_listed zero b = refl
 nothing_listed (suc n) b = sum_by-cons (λ blocks. count_by (nat_eq b) blocks) [] (block_lists (replicate n None)) ∙ omega (arith, nothing_listed n b)
 
 -- it is valid
-pub AreValidFiles-none : (total n : ℕ) → total ≤ BLOCKS → n ≤ 256 → AreValidFiles total (replicate n None)
+pub AreValidFiles-none : (total n : ℕ) → total ≤ BLOCKS → n ≤ FILES → AreValidFiles total (replicate n None)
 AreValidFiles-none total n few_blocks few_files = record {
   few_blocks = few_blocks;
   few_files = rw length-replicate few_files;

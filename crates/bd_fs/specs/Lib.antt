@@ -2,3 +2,4 @@ pub mod Asks
 pub mod Errors
 pub mod Files
 pub mod Kept
+pub mod PolicyRules

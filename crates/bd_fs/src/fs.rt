@@ -1,9 +1,9 @@
 //! The files of a volume and its free blocks.
 ghost use Rattle.std.specs.Prelude.{◌≡◌, ℕ, ◌↔◌, [], None, Some, Err, IfOk, OnErr, IsSome, IsNone};
 ghost use Rattle.std.specs.Option.{option_copied};
-ghost use Rattle.bd_base.specs.Inodes.{AreValidFiles, create_refusal, free_id, id_of, inode_at};
+ghost use Rattle.bd_base.specs.Inodes.{AreValidFiles, create_refusal, empty_file, free_id, id_of, inode_at};
 ghost use Rattle.bd_fs.specs.Asks.{denial_to};
-ghost use Rattle.bd_fs.specs.Files.{empty_file, file_of, with_file};
+ghost use Rattle.bd_fs.specs.Files.{MakesFile, file_with_id, with_file};
 
 mod growth;
 mod load;
@@ -25,7 +25,7 @@ pub struct Fs {
     total: u32,
     inodes: Vec<Option<Inode>>,
     // How many extents each file has.
-    runs: Vec<u8>,
+    counts: Vec<u8>,
     free: FreeSet,
     names: IndexMap<Vec<u8>, FileId>,
 }
@@ -41,7 +41,13 @@ impl Model for Fs {
 
     ghost view = { λ a. record { total = a.total; files = a.inodes.items } };
 
-    ghost invariant = { λ a. IsKept a.total a.inodes.items a.runs.items a.free (λ name. get_by (λ key. bytes_eq name key.items) a.names) };
+    ghost invariant = { λ a. IsKept (record {
+      total = a.total;
+      files = a.inodes.items;
+      counts = a.counts.items;
+      free = a.free;
+      id_by_name = λ name. get_by (λ key. bytes_eq name key.items) a.names;
+    }) };
 }
 
 impl Fs {
@@ -80,10 +86,11 @@ impl Fs {
     /// denies.
     pub fn may(&self, uid: u32, file: FileId, ask: Ask) -> May
         requires { IsSome (inode_at self.now.files file) }
-        ensures yes { (result ≡ May.Yes) ↔ (denial_to uid ask (file_of self.now file) ≡ None) }
-        ensures no { (rule : ℕ) → (result ≡ May.No rule) ↔ (denial_to uid ask (file_of self.now file) ≡ Some rule) }
+        ensures yes { (result ≡ May.Yes) ↔ (denial_to uid ask (file_with_id self.now file) ≡ None) }
+        ensures no { (rule : ℕ) →
+            (result ≡ May.No rule) ↔ (denial_to uid ask (file_with_id self.now file) ≡ Some rule) }
     {
-        let inode = self.existing(file);
+        let inode = self.existing_inode(file);
         match denial(ask, uid, inode.owner, inode.perms) {
             Some(rule) => May::No(rule),
             None => May::Yes,
@@ -96,7 +103,7 @@ impl Fs {
     /// where no id is free; OutOfMemory. After a refusal all is as before.
     pub fn create(&mut self, name: Name, owner: u32, perms: u8) -> Result<FileId, CreateError>
         ensures id { IfOk result (λ id. free_id self.old.files ≡ Some id) }
-        ensures made { IfOk result (λ id. self.new ≡ with_file self.old id (Some (empty_file name owner perms))) }
+        ensures made { IfOk result (MakesFile self.old self.new (empty_file name owner perms)) }
         ensures exists { (result ≡ Err CreateError.Exists) ↔ IsSome (id_of name self.old.files) }
         ensures inodes { (result ≡ Err CreateError.Inodes)
             ↔ (IsNone (id_of name self.old.files) × IsNone (free_id self.old.files)) }
@@ -134,7 +141,7 @@ impl Fs {
     /// Takes an empty file away.
     pub fn remove(&mut self, file: FileId)
         requires exists { IsSome (inode_at self.old.files file) }
-        requires empty { (file_of self.old file).blocks ≡ [] }
+        requires empty { (file_with_id self.old file).blocks ≡ [] }
         ensures { self.new ≡ with_file self.old file None }
     {
         let removed = self.inodes[file.get() as usize].take();
@@ -144,9 +151,9 @@ impl Fs {
     }
 
     /// The file with this id, which exists.
-    fn existing(&self, file: FileId) -> &Inode
+    fn existing_inode(&self, file: FileId) -> &Inode
         requires { IsSome (inode_at self.now.files file) }
-        ensures file { result.now ≡ file_of self.now file }
+        ensures file { result.now ≡ file_with_id self.now file }
         ensures valid { AreValidFiles self.now.total self.now.files }
     {
         match &self.inodes[file.get() as usize] {
@@ -155,8 +162,8 @@ impl Fs {
         }
     }
 
-    /// The lowest free id.
-    fn free_id(&self) -> Option<FileId>
+    /// The lowest free id, None exactly where all are used.
+    pub fn free_id(&self) -> Option<FileId>
         ensures { result ≡ free_id self.now.files }
     {
         let index = lowest_free(&self.inodes)?;

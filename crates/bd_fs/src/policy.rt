@@ -2,6 +2,7 @@
 ghost use Rattle.std.specs.Prelude.{◌≡◌, ◌<◌, if◌then◌else◌};
 ghost use Rattle.bd_base.specs.Policy.{has_permission as is_permitted, read_denial as rule_against_reading, write_denial as rule_against_writing};
 ghost use Rattle.bd_fs.specs.Asks.{denial_of};
+ghost use Rattle.bd_fs.specs.PolicyRules.{IsLeastDenial, Question};
 
 /// What a user asks to do with a file.
 #[derive(Clone, Copy, Debug, PartialEq, Eq)]
@@ -32,16 +33,26 @@ const OTHER_READ: u8 = 4;
 
 const OTHER_WRITE: u8 = 8;
 
-/// The least rule by which `ask` is denied to `uid`, None where it is allowed.
+/// The number of the least rule by which the user `uid` is denied `ask` of a file of this owner and these perms: 1 to
+/// [`bd_base::POLICY_RULES`]. None where no rule denies it.
 pub fn denial(ask: Ask, uid: u32, owner: u32, perms: u8) -> Option<u8>
-    ensures { result ≡ denial_of ask uid owner perms }
+    ensures value { result ≡ denial_of ask uid owner perms }
+    ensures least { IsLeastDenial (record { ask = ask; uid = uid; owner = owner; perms = perms })
+        result }
 {
+    policy_tells_the_least_rule();
+
     match ask {
         Ask::Read => read_denial(uid, owner, perms),
         Ask::ReadWrite => read_denial(uid, owner, perms).or(write_denial(uid, owner, perms)),
         Ask::Unlink => unless(uid == owner, 5),
     }
 }
+
+/// The answer of the policy is the least of its rules that denies. It does nothing.
+fn policy_tells_the_least_rule()
+    ensures { (q : Question) → IsLeastDenial q (denial_of q.ask q.uid q.owner q.perms) }
+{}
 
 fn read_denial(uid: u32, owner: u32, perms: u8) -> Option<u8>
     ensures { result ≡ rule_against_reading uid owner perms }

@@ -2,12 +2,19 @@
 use Rattle.std.proofs.Common.{sym}
 use Rattle.bd_base.specs.declared.volume.Volume.{Volume}
 use Rattle.bd_base.specs.Volumes.{IsSoundVolume}
-use Rattle.bd_image.specs.Rules.{Accepted, Bitmap, BlockCount, ExtentCount, ExtentJoins, ExtentRange, ExtentShares, FreeRecord, HeaderRest, InodeCount, Length, Magic, NameForm, NameFresh, Perms, RecordRest, Size, TailZero, UsedMark, Version}
+use Rattle.bd_image.specs.Rules.{Accepted, Bitmap, BlockCount, ExtentCount, ExtentJoins, ExtentRange}
+use Rattle.bd_image.specs.Rules.{ExtentShares, FreeRecord, HeaderRest, InodeCount, Length, Magic, NameForm}
+use Rattle.bd_image.specs.Rules.{NameFresh, Perms, RecordRest, Size, TailZero, UsedMark, Version}
 use Rattle.bd_image.specs.Volumes.{AcceptedVolume, image_of}
 use Rattle.bd_image.proofs.WrittenBitmap.{written-obeys-Bitmap}
 use Rattle.bd_image.proofs.WrittenBytes.{AreBytes-image}
 use Rattle.bd_image.proofs.WrittenExtents.{written-obeys-ExtentJoins, written-obeys-ExtentRange, written-obeys-Size}
-use Rattle.bd_image.proofs.WrittenRules.{written-obeys-BlockCount, written-obeys-ExtentCount, written-obeys-FreeRecord, written-obeys-HeaderRest, written-obeys-InodeCount, written-obeys-Length, written-obeys-Magic, written-obeys-NameForm, written-obeys-NameFresh, written-obeys-Perms, written-obeys-RecordRest, written-obeys-UsedMark, written-obeys-Version}
+use Rattle.bd_image.proofs.WrittenRules.{written-obeys-BlockCount, written-obeys-ExtentCount}
+use Rattle.bd_image.proofs.WrittenRules.{written-obeys-FreeRecord, written-obeys-HeaderRest}
+use Rattle.bd_image.proofs.WrittenRules.{written-obeys-InodeCount, written-obeys-Length, written-obeys-Magic}
+use Rattle.bd_image.proofs.WrittenRules.{written-obeys-NameForm, written-obeys-NameFresh, written-obeys-Perms}
+use Rattle.bd_image.proofs.WrittenRules.{written-obeys-RecordRest, written-obeys-UsedMark}
+use Rattle.bd_image.proofs.WrittenRules.{written-obeys-Version}
 use Rattle.bd_image.proofs.WrittenShares.{written-obeys-ExtentShares}
 use Rattle.bd_image.proofs.WrittenTails.{written-obeys-TailZero}
 use Rattle.bd_image.proofs.WrittenVolume.{volume-written}

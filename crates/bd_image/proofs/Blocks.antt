@@ -10,17 +10,17 @@ use Rattle.bd_image.specs.Checks.{blocks_before}
 
 pub blocks_of-append : (xs ys : List Extent) → blocks_of (xs ++ ys) ≡ blocks_of xs ++ blocks_of ys
 blocks_of-append [] ys = refl
-blocks_of-append (x ∷ xs) ys = ap (λ l. range_with_len x.start x.length ++ l) (blocks_of-append xs ys) ∙ sym (append_assoc (range_with_len x.start x.length) (blocks_of xs) (blocks_of ys))
+blocks_of-append (x ∷ xs) ys = ap (λ l. range_with_len x.start x.length ++ l) (blocks_of-append xs ys)
+    ∙ sym (append_assoc (range_with_len x.start x.length) (blocks_of xs) (blocks_of ys))
 
 -- one more extent
-pub blocks_before-more : (b : List ℕ) (j n : ℕ) → blocks_before b j (n + 1) ≡ blocks_before b j n ++ range_with_len (extent_at b j n).start (extent_at b j n).length
+pub blocks_before-more : (b : List ℕ) (j n : ℕ) → blocks_before b j (n + 1) ≡ blocks_before b j n
+    ++ range_with_len (extent_at b j n).start (extent_at b j n).length
 blocks_before-more b j n =
-    ap blocks_of (map-range_with_len_more (extent_at b j) 0 n n (grind arith)) ∙ blocks_of-append (map (extent_at b j) (range_with_len 0 n)) (extent_at b j n ∷ []) ∙ ap (λ l. blocks_before b j n ++ l) (grind (arith, common_steps))
+    ap blocks_of (map-range_with_len_more (extent_at b j) 0 n n (grind arith))
+    ∙ blocks_of-append (map (extent_at b j) (range_with_len 0 n)) (extent_at b j n ∷ [])
+    ∙ ap (λ l. blocks_before b j n ++ l) (grind (arith, common_steps))
 
 pub length_blocks_before-more : (b : List ℕ) (j n : ℕ) → length (blocks_before b j (n + 1)) ≡ length (blocks_before b j n) + (extent_at b j n).length
 length_blocks_before-more b j n =
     ap length (blocks_before-more b j n) ∙ grind (arith, common_steps, length-range_with_len)
-
--- a range grows at its end
-pub range_with_len-more : (a n : ℕ) → range_with_len a (n + 1) ≡ range_with_len a n ++ (a + n) ∷ []
-range_with_len-more a n = sym (map-id (range_with_len a (n + 1))) ∙ map-range_with_len_more (λ x. x) a n (a + n) refl ∙ ap (λ l. l ++ (a + n) ∷ []) (map-id (range_with_len a n))

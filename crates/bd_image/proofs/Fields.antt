@@ -1,5 +1,6 @@
 -- The fields of a file's record, read where the record stands.
-use Rattle.std.proofs.Common.{◌≡◌, ◌≤◌, ◌<◌, ◌+◌, ◌-◌, ◌*◌, ◌^◌, ℕ, List, [], ◌∷◌, ◌++◌, length, map, get_or, replicate, refl, ap, sym, ◌∙◌, append_assoc, arith}
+use Rattle.std.proofs.Common.{◌≡◌, ◌≤◌, ◌<◌, ◌+◌, ◌-◌, ◌*◌, ◌^◌, ℕ, List, [], ◌∷◌, ◌++◌, length, map, get_or}
+use Rattle.std.proofs.Common.{replicate, refl, ap, sym, ◌∙◌, append_assoc, arith}
 use Rattle.std.proofs.lemmas.List.{length-append, length-replicate}
 use Rattle.std.proofs.lemmas.List.FromFn.{fill_by_all}
 use Rattle.std.specs.List.{All, flat_map, range_with_len}
@@ -7,7 +8,7 @@ use Rattle.byteorder.specs.Endian.{little_bytes}
 use Rattle.bd_base.specs.declared.volume.Extent.{Extent}
 use Rattle.bd_base.specs.declared.volume.Inode.{Inode}
 use Rattle.bd_base.specs.Extents.{extents_of}
-use Rattle.bd_image.specs.Layout.{extent_at, extent_count, extent_place, extents_at, name_field, owner_at, number_at, record_place, size_at}
+use Rattle.bd_image.specs.Layout.{extent_at, extent_count, extent_place, extents_at, name_field, owner_at, number_at, record_place, size_in_image}
 use Rattle.bd_image.specs.Limits.{FitsRecord}
 use Rattle.bd_image.specs.Rules.{IsInDataArea}
 use Rattle.bd_image.specs.Volumes.{extent_bytes, file_bytes}
@@ -36,7 +37,8 @@ extents-eight es k d low = refl
 
 -- the bytes of a record in its six parts
 pub record_parts : (file : Inode) → file_bytes file
-    ≡ ((((1 ∷ file.perms ∷ little_bytes 2 (length (extents_of file.blocks))) ++ little_bytes 4 file.owner) ++ little_bytes 8 file.size) ++ padded file.name)
+    ≡ ((((1 ∷ file.perms ∷ little_bytes 2 (length (extents_of file.blocks))) ++ little_bytes 4 file.owner)
+    ++ little_bytes 8 file.size) ++ padded file.name)
     ++ flat_map extent_bytes (extents_of file.blocks) ++ replicate (8 * (24 - length (extents_of file.blocks)) + 16) 0
 unfolding file_bytes
 record_parts file =
@@ -47,10 +49,19 @@ record_parts file =
 -- six lists, one after the other
 six-length : (a o s n e z : List ℕ) → length (a ++ o ++ s ++ n ++ e ++ z) ≡ length a + length o + length s + length n + length e + length z
 six-length a o s n e z =
-    omega (arith, length-append a o, length-append (a ++ o) s, length-append (a ++ o ++ s) n, length-append (a ++ o ++ s ++ n) e, length-append (a ++ o ++ s ++ n ++ e) z)
+    omega (
+      arith,
+      length-append a o,
+      length-append (a ++ o) s,
+      length-append (a ++ o ++ s) n,
+      length-append
+          (a ++ o ++ s ++ n) e,
+      length-append (a ++ o ++ s ++ n ++ e) z,
+    )
 
 -- each of the six stands where the ones before it end
-six-stand : (b : List ℕ) (r : ℕ) (a o s n e z : List ℕ) → length a ≡ 4 → length o ≡ 4 → length s ≡ 8 → length n ≡ 32 → Stands b r (a ++ o ++ s ++ n ++ e ++ z)
+six-stand : (b : List ℕ) (r : ℕ) (a o s n e z : List ℕ) → length a ≡ 4 → length o ≡ 4 → length s ≡ 8
+    → length n ≡ 32 → Stands b r (a ++ o ++ s ++ n ++ e ++ z)
     → Stands b r a × Stands b (r + 4) o × Stands b (r + 8) s × Stands b (r + 16) n × Stands b (r + 48) e × Stands b (r + 48 + length e) z
 six-stand b r a o s n e z la lo ls ln h =
     let h₅ : Stands b r (a ++ o ++ s ++ n ++ e) = Stands-left b r (a ++ o ++ s ++ n ++ e) z h in
@@ -76,7 +87,8 @@ length-file_bytes file fits =
     let n : ℕ = length (extents_of file.blocks) in
     let few : n ≤ 24 = fits.extents in
     let zeros : length {A = ℕ} (replicate (8 * (24 - n) + 16) 0) ≡ 8 * (24 - n) + 16 = length-replicate (8 * (24 - n) + 16) 0 in
-    let extents : length (flat_map extent_bytes (extents_of file.blocks)) ≡ 8 * n = length-pieces extent_bytes 8 (extents_of file.blocks) (extents-eight (extents_of file.blocks)) in
+    let extents : length (flat_map extent_bytes (extents_of file.blocks)) ≡ 8 * n =
+    length-pieces extent_bytes 8 (extents_of file.blocks) (extents-eight (extents_of file.blocks)) in
     ap length (record_parts file)
     ∙ six-length (1 ∷ file.perms ∷ little_bytes 2 n) (little_bytes 4 file.owner) (little_bytes 8 file.size) (padded file.name)
     (flat_map extent_bytes (extents_of file.blocks)) (replicate (8 * (24 - n) + 16) 0)
@@ -87,7 +99,8 @@ length-file_bytes file fits =
 pub RecordStands-from_bytes : (b : List ℕ) (r : ℕ) (file : Inode) → FitsRecord file → Stands b r (file_bytes file) → RecordStands b r file
 RecordStands-from_bytes b r file fits h =
     let n : ℕ = length (extents_of file.blocks) in
-    let extents : length (flat_map extent_bytes (extents_of file.blocks)) ≡ 8 * n = length-pieces extent_bytes 8 (extents_of file.blocks) (extents-eight (extents_of file.blocks)) in
+    let extents : length (flat_map extent_bytes (extents_of file.blocks)) ≡ 8 * n =
+    length-pieces extent_bytes 8 (extents_of file.blocks) (extents-eight (extents_of file.blocks)) in
     let (front, owner, size, name, es, rest) =
     six-stand b r (1 ∷ file.perms ∷ little_bytes 2 n) (little_bytes 4 file.owner) (little_bytes 8 file.size) (padded file.name)
     (flat_map extent_bytes (extents_of file.blocks)) (replicate (8 * (24 - n) + 16) 0) refl refl refl (length-padded file.name fits.name)
@@ -106,7 +119,8 @@ pub written-perms : (b : List ℕ) (r : ℕ) (file : Inode) → RecordStands b r
 written-perms b r file h = Stands-byte b r 1 (1 ∷ file.perms ∷ little_bytes 2 (length (extents_of file.blocks))) (omega arith) h.front
 
 -- the number of its extents
-pub written-count : (b : List ℕ) (j : ℕ) (file : Inode) → FitsRecord file → RecordStands b (record_place j) file → extent_count b j ≡ length (extents_of file.blocks)
+pub written-count : (b : List ℕ) (j : ℕ) (file : Inode) → FitsRecord file → RecordStands b (record_place j) file
+    → extent_count b j ≡ length (extents_of file.blocks)
 written-count b j file fits h =
     let n : ℕ = length (extents_of file.blocks) in
     let few : n ≤ 24 = fits.extents in
@@ -118,7 +132,7 @@ pub written-owner : (b : List ℕ) (j : ℕ) (file : Inode) → file.owner < 2 ^
 written-owner b j file small h = Stands-number b (record_place j + 4) 4 file.owner small h.owner
 
 -- its size
-pub written-size : (b : List ℕ) (j : ℕ) (file : Inode) → file.size < 256 ^ 8 → RecordStands b (record_place j) file → size_at b j ≡ file.size
+pub written-size : (b : List ℕ) (j : ℕ) (file : Inode) → file.size < 256 ^ 8 → RecordStands b (record_place j) file → size_in_image b j ≡ file.size
 written-size b j file small h = Stands-number b (record_place j + 8) 8 file.size small h.size
 
 -- the field of its name
@@ -126,11 +140,14 @@ pub written-name : (b : List ℕ) (j : ℕ) (file : Inode) → FitsRecord file �
 written-name b j file fits h = Stands-take b (record_place j + 16) 32 (padded file.name) (length-padded file.name fits.name) h.name
 
 -- an extent whose eight bytes stand
-written-extent : (b : List ℕ) (j e : ℕ) (x : Extent) → x.start < 256 ^ 4 → x.length < 256 ^ 4 → Stands b (extent_place j e) (extent_bytes x) → extent_at b j e ≡ x
+written-extent : (b : List ℕ) (j e : ℕ) (x : Extent) → x.start < 256 ^ 4 → x.length < 256 ^ 4
+    → Stands b (extent_place j e) (extent_bytes x) → extent_at b j e ≡ x
 written-extent b j e x start len h =
     let p : ℕ = extent_place j e in
     let one : number_at 4 b p ≡ x.start = Stands-number b p 4 x.start start (Stands-left b p (little_bytes 4 x.start) (little_bytes 4 x.length) h) in
-    let two : number_at 4 b (p + 4) ≡ x.length = Stands-number b (p + 4) 4 x.length len (Stands-right b p 4 (little_bytes 4 x.start) (little_bytes 4 x.length) refl h) in
+    let two : number_at 4 b (p + 4) ≡ x.length =
+    Stands-number b (p + 4) 4 x.length len
+    (Stands-right b p 4 (little_bytes 4 x.start) (little_bytes 4 x.length) refl h) in
     ap (λ (s : ℕ). let y : Extent = record { start = s; length = number_at 4 b (p + 4) } in y) one
     ∙ ap (λ (l : ℕ). let y : Extent = record { start = x.start; length = l } in y) two
 

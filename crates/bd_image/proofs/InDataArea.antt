@@ -1,21 +1,15 @@
 -- Extents of data blocks lie in the data area.
-use Rattle.std.proofs.Common.{◌≤◌, ◌<◌, ◌+◌, ◌-◌, ℕ, nat_le, nat_lt, IsTrue, List, length, get_or, subst, arith}
-use Rattle.std.proofs.lemmas.Bool.{and_parts, leb-true, ltb-true}
+use Rattle.std.proofs.Common.{◌≤◌, ◌<◌, ◌+◌, ◌-◌, ℕ, IsTrue, List, length, get_or, subst, arith}
 use Rattle.std.proofs.lemmas.List.Elements.{All-contains}
 use Rattle.std.specs.List.{All, Contains}
 use Rattle.bd_base.specs.declared.volume.Extent.{Extent}
 use Rattle.bd_base.specs.Allocation.{is_data_block}
 use Rattle.bd_base.specs.Extents.{extents_of}
 use Rattle.bd_base.specs.Files.{data_start}
+use Rattle.bd_base.proofs.ValidFiles.{data_block-within}
 use Rattle.bd_image.specs.Rules.{IsInDataArea}
-use Rattle.bd_extents.proofs.Runs.{AreMaximal-extents_of, blocks_of-extents_of}
-use Rattle.bd_image.proofs.Runs.{Contains-blocks_of, not_empty-at}
-
--- what the test of a data block says
-pub data_block : (total capacity x : ℕ) → IsTrue (is_data_block total capacity x) → (data_start capacity ≤ x) × (x < total)
-data_block total capacity x h =
-    let (from, below) = and_parts (nat_le (data_start capacity) x) (nat_lt x total) h in
-    (leb-true (data_start capacity) x from, ltb-true x total below)
+use Rattle.bd_extents.proofs.ExtentLists.{AreMaximal-extents_of, blocks_of-extents_of}
+use Rattle.bd_image.proofs.ExtentBlocks.{Contains-blocks_of, not_empty-at}
 
 -- an extent of data blocks lies in the data area
 pub in_data_area : (total capacity : ℕ) (blocks : List ℕ) (e : ℕ) (d : Extent) → All (λ block. IsTrue (is_data_block total capacity block)) blocks
@@ -26,7 +20,7 @@ in_data_area total capacity blocks e d all low =
     let some : 0 < g.length = not_empty-at es e d (AreMaximal-extents_of blocks) low in
     let each : (x : ℕ) → g.start ≤ x → x < g.start + g.length → (data_start capacity ≤ x) × (x < total) =
     λ x from below.
-    data_block total capacity x
+    data_block-within total capacity x
     (All-contains (λ block. IsTrue (is_data_block total capacity block)) blocks x all
     (subst (λ (xs : List ℕ). Contains xs x) (blocks_of-extents_of blocks) (Contains-blocks_of es e d x low from below))) in
     let first : (data_start capacity ≤ g.start) × (g.start < total) = each g.start (omega arith) (omega arith) in

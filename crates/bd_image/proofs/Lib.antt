@@ -2,10 +2,12 @@
 pub mod Accepted
 pub mod Bitmap
 pub mod Blocks
+pub mod ExtentBlocks
 pub mod Fields
 pub mod Header
 pub mod InDataArea
 pub mod Limits
+pub mod LongImages
 pub mod Marks
 pub mod NameFields
 pub mod Names
@@ -15,7 +17,6 @@ pub mod Parts
 pub mod Places
 pub mod Records
 pub mod RuleOrder
-pub mod Runs
 pub mod Seen
 pub mod SetBits
 pub mod Sharing

@@ -1,5 +1,6 @@
 -- The field of a name is the name and zeros.
-use Rattle.std.proofs.Common.{◌≡◌, ◌<◌, ◌-◌, ℕ, true, not, eqb, List, ◌++◌, length, take, get_or, replicate, refl, ap, sym, ◌∙◌, arith}
+use Rattle.std.proofs.Common.{◌≡◌, ◌<◌, ◌-◌, ℕ, true, not, eqb, List, ◌++◌, length, take, get_or, replicate}
+use Rattle.std.proofs.Common.{refl, ap, sym, ◌∙◌, arith}
 use Rattle.std.proofs.lemmas.Bool.{ne_eqb}
 use Rattle.std.proofs.lemmas.List.{get_or_append_left, get_or-append_right, get_or-replicate, length-append, length-replicate, take_at}
 use Rattle.std.proofs.lemmas.List.Sums.{prefix_len_is}

@@ -1,5 +1,7 @@
 -- No block of an accepted image is in two places of its files.
-use Rattle.std.proofs.Common.{◌≡◌, ◌≤◌, ◌<◌, ◌+◌, ◌⊎◌, inl, inr, ℕ, zero, suc, cond, eqb, ◌-◌, List, [], ◌∷◌, ◌++◌, Option, None, Some, length, get_or, replicate, map, refl, ap, sym, ◌∙◌, subst, arith}
+use Rattle.std.proofs.Common.{◌≡◌, ◌≤◌, ◌<◌, ◌+◌, ◌⊎◌, inl, inr, ℕ, zero, suc, cond, eqb, ◌-◌, List, [], ◌∷◌}
+use Rattle.std.proofs.Common.{◌++◌, Option, None, Some, length, get_or, replicate, map, refl, ap, sym, ◌∙◌}
+use Rattle.std.proofs.Common.{subst, arith}
 use Rattle.std.proofs.lemmas.Bool.{cases_eq, cases_lt, cases_order, cond-false, cond-true, eq-eqb, eqb-true, ne_eqb}
 use Rattle.std.proofs.lemmas.List.Sums.{sum_by-append, sum_by-cons}
 use Rattle.std.specs.List.{count_by, range_with_len, sum_by}
@@ -10,12 +12,12 @@ use Rattle.std.proofs.lemmas.Option.{cond_some, none-some}
 use Rattle.bd_base.specs.declared.volume.Inode.{Inode}
 use Rattle.bd_base.specs.Allocation.{times_listed}
 use Rattle.bd_base.specs.Extents.{blocks_of}
-use Rattle.bd_base.specs.Inodes.{block_lists, blocks_at}
+use Rattle.bd_base.specs.Inodes.{block_lists, blocks_of_slot}
 use Rattle.bd_image.specs.Layout.{IsUsed, extent_at, extent_count, inode_count, name_at, name_field, used_mark}
 use Rattle.bd_image.specs.Rules.{IsExtent, Obeys, ShareBlock, ExtentShares, NameForm, NameFresh}
-use Rattle.bd_image.specs.Volumes.{inode_at}
+use Rattle.bd_image.specs.Volumes.{inode_in_image}
 use Rattle.bd_image.proofs.Names.{name-field}
-use Rattle.bd_image.proofs.Taken.{file_at, inodes_of, inodes_of-get_or, length-inodes_of}
+use Rattle.bd_image.proofs.Taken.{file_in_image, inodes_of, inodes_of-get_or, length-inodes_of}
 
 -- how often block x is in blocks
 abbrev pub times : ℕ → List ℕ → ℕ
@@ -54,7 +56,8 @@ sum-at_most_one g (suc n) a small apart =
     ]
 
 -- how often a block is in a row of blocks: once where it is between its ends, and else not
-pub times-range : (x n s : ℕ) → ((times x (range_with_len s n) ≡ 0) × ((x < s) ⊎ (s + n ≤ x))) ⊎ ((times x (range_with_len s n) ≡ 1) × (s ≤ x) × (x < s + n))
+pub times-range : (x n s : ℕ) → ((times x (range_with_len s n) ≡ 0) × ((x < s) ⊎ (s + n ≤ x)))
+    ⊎ ((times x (range_with_len s n) ≡ 1) × (s ≤ x) × (x < s + n))
 times-range x zero s = inl (refl, elim (cases_lt x s) [ inl below ↦ inl below | inr above ↦ inr (omega arith) ])
 times-range x (suc n) s =
     let worth : ℕ = cond (eqb x s) 1 0 in
@@ -91,7 +94,7 @@ times_at b x j e = times x (range_with_len (extent_at b j e).start (extent_at b 
 
 -- how often block x is in the blocks of record j
 abbrev times_in : List ℕ → ℕ → ℕ → ℕ
-times_in b x j = times x (blocks_at (inode_at b j))
+times_in b x j = times x (blocks_of_slot (inode_in_image b j))
 
 times_at-small : (b : List ℕ) (x j e : ℕ) → times_at b x j e ≤ 1
 times_at-small b x j e =
@@ -113,15 +116,15 @@ shared b x i d j e one other =
 -- how often a block is in a record that is used, and in one that is free
 times_in-used : (b : List ℕ) (x j : ℕ) → used_mark b j ≡ 1 → times_in b x j ≡ sum_by (times_at b x j) (range_with_len 0 (extent_count b j))
 times_in-used b x j used =
-    ap (λ (inode : Option Inode). times x (blocks_at inode))
-    (cond-true (eqb (used_mark b j) 1) (Some (file_at b j)) None (eq-eqb (used_mark b j) 1 used))
+    ap (λ (inode : Option Inode). times x (blocks_of_slot inode))
+    (cond-true (eqb (used_mark b j) 1) (Some (file_in_image b j)) None (eq-eqb (used_mark b j) 1 used))
     ∙ times-blocks_of x (map (extent_at b j) (range_with_len 0 (extent_count b j)))
     ∙ fold-map (λ (a : ℕ) (e : Extent). a + times x (range_with_len e.start e.length)) (extent_at b j) 0 (range_with_len 0 (extent_count b j))
 
 times_in-free : (b : List ℕ) (x j : ℕ) → (used_mark b j ≡ 1 → ⊥) → times_in b x j ≡ 0
 times_in-free b x j free =
-    ap (λ (inode : Option Inode). times x (blocks_at inode))
-    (cond-false (eqb (used_mark b j) 1) (Some (file_at b j)) None (ne_eqb (used_mark b j) 1 free))
+    ap (λ (inode : Option Inode). times x (blocks_of_slot inode))
+    (cond-false (eqb (used_mark b j) 1) (Some (file_in_image b j)) None (ne_eqb (used_mark b j) 1 free))
 
 -- a block of a record is in some extent of it
 in_extent : (b : List ℕ) (x j : ℕ) → j < inode_count b → 0 < times_in b x j → (e : ℕ) × IsExtent b j e × (0 < times_at b x j e)
@@ -148,14 +151,15 @@ times_in-small b x j shares there =
     ]
 
 -- how often a block is in the lists of blocks of files
-pub times_listed-files : (inodes : List (Option Inode)) (x : ℕ) → times_listed (block_lists inodes) x ≡ sum_by (λ inode. times x (blocks_at inode)) inodes
-times_listed-files inodes x = fold-map (λ (a : ℕ) (blocks : List ℕ). a + times x blocks) blocks_at 0 inodes
+pub times_listed-files : (inodes : List (Option Inode)) (x : ℕ) → times_listed (block_lists inodes) x
+    ≡ sum_by (λ inode. times x (blocks_of_slot inode)) inodes
+times_listed-files inodes x = fold-map (λ (a : ℕ) (blocks : List ℕ). a + times x blocks) blocks_of_slot 0 inodes
 
 -- and of the volume's files
 times_listed-inodes_of : (b : List ℕ) (x : ℕ) → times_listed (block_lists (inodes_of b)) x ≡ sum_by (times_in b x) (range_with_len 0 (inode_count b))
 times_listed-inodes_of b x =
     times_listed-files (inodes_of b) x
-    ∙ fold-map (λ (a : ℕ) (inode : Option Inode). a + times x (blocks_at inode)) (inode_at b) 0 (range_with_len 0 (inode_count b))
+    ∙ fold-map (λ (a : ℕ) (inode : Option Inode). a + times x (blocks_of_slot inode)) (inode_in_image b) 0 (range_with_len 0 (inode_count b))
 
 -- no block is in two places of the volume's files
 pub owned_once : (b : List ℕ) → Obeys b ExtentShares → (x : ℕ) → times_listed (block_lists (inodes_of b)) x ≤ 1
@@ -168,12 +172,12 @@ owned_once b shares x =
     shares i d j e here there (inl between) (shared b x i d j e some more)))
 
 -- a file that the volume has is the file of a used record
-pub file-is : (b : List ℕ) (j : ℕ) (file : Inode) → get_or (inodes_of b) j None ≡ Some file → IsUsed b j × (file_at b j ≡ file)
+pub file-is : (b : List ℕ) (j : ℕ) (file : Inode) → get_or (inodes_of b) j None ≡ Some file → IsUsed b j × (file_in_image b j ≡ file)
 file-is b j file h =
     elim (cases_lt j (inode_count b)) [
       | inl there ↦
           let d : Option Inode = None in
-          let (used, same) = cond_some (eqb (used_mark b j) 1) (file_at b j) file (sym (inodes_of-get_or b j d there) ∙ h) in
+          let (used, same) = cond_some (eqb (used_mark b j) 1) (file_in_image b j) file (sym (inodes_of-get_or b j d there) ∙ h) in
           ((there, eqb-true (used_mark b j) 1 used), same)
       | inr past ↦
           let d : Option Inode = None in
@@ -182,7 +186,9 @@ file-is b j file h =
     ]
 
 -- no two files of the volume have one name
-pub own_names : (b : List ℕ) → Obeys b NameForm → Obeys b NameFresh → (i j : ℕ) (file other : Inode) → get_or (inodes_of b) i None ≡ Some file → get_or (inodes_of b) j None ≡ Some other → file.name ≡ other.name → i ≡ j
+pub own_names : (b : List ℕ) → Obeys b NameForm → Obeys b NameFresh → (i j : ℕ) (file other : Inode)
+    → get_or (inodes_of b) i None ≡ Some file → get_or (inodes_of b) j None ≡ Some other
+    → file.name ≡ other.name → i ≡ j
 own_names b form fresh i j file other at at' same =
     let (used, is) = file-is b i file at in
     let (used', is') = file-is b j other at' in

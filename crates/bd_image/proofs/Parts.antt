@@ -1,5 +1,6 @@
 -- Parts of a list of bytes: n of them from place p on.
-use Rattle.std.proofs.Common.{◌≡◌, ◌≤◌, ◌<◌, ◌+◌, ◌*◌, ℕ, zero, suc, List, [], ◌∷◌, ◌++◌, length, take, drop, get_or, replicate, refl, ap, sym, ◌∙◌, append_assoc, arith}
+use Rattle.std.proofs.Common.{◌≡◌, ◌≤◌, ◌<◌, ◌+◌, ◌*◌, ℕ, zero, suc, List, [], ◌∷◌, ◌++◌, length, take, drop}
+use Rattle.std.proofs.Common.{get_or, replicate, refl, ap, sym, ◌∙◌, append_assoc, arith}
 use Rattle.std.proofs.Math.Seq.{take-add}
 use Rattle.std.proofs.lemmas.Grind.{same_number_lists}
 use Rattle.std.proofs.lemmas.List.{drop-drop, get_or-drop, get_or-replicate, get_or-take, length-drop, length-replicate, length-take}
@@ -28,14 +29,16 @@ pub get_or-part : (b : List ℕ) (p n k : ℕ) → k < n → get_or (part b p n)
 get_or-part b p n k h = get_or-take n (drop p b) k 0 h ∙ get_or-drop p b k 0
 
 -- a part by its bytes
-pub part-from_bytes : (b xs : List ℕ) (p n : ℕ) → p + n ≤ length b → length xs ≡ n → ((k : ℕ) → k < n → get_or xs k 0 ≡ get_or b (p + k) 0)
+pub part-from_bytes : (b xs : List ℕ) (p n : ℕ) → p + n ≤ length b → length xs ≡ n
+    → ((k : ℕ) → k < n → get_or xs k 0 ≡ get_or b (p + k) 0)
     → xs ≡ part b p n
 part-from_bytes b xs p n within len same =
     same_number_lists xs (part b p n) (len ∙ sym (length-part b p n within))
     (λ k h. same k (omega arith) ∙ sym (get_or-part b p n k (omega arith)))
 
 -- a part of zeros
-pub part-zeros : (b : List ℕ) (p n : ℕ) → p + n ≤ length b → ((k : ℕ) → p ≤ k → k < p + n → get_or b k 0 ≡ 0) → replicate n 0 ≡ part b p n
+pub part-zeros : (b : List ℕ) (p n : ℕ) → p + n ≤ length b → ((k : ℕ) → p ≤ k → k < p + n → get_or b k 0 ≡ 0)
+    → replicate n 0 ≡ part b p n
 part-zeros b p n within zeros =
     part-from_bytes b (replicate n 0) p n within (length-replicate n 0)
     (λ k h. get_or-replicate n k 0 0 h ∙ sym (zeros (p + k) (omega arith) (omega arith)))
@@ -64,7 +67,8 @@ part-pieces f b w p (suc n) a each =
     ∙ ap (λ (k : ℕ). part b (p + w * a) k) (sym more)
 
 -- five appends in a row are one
-pub appends-five : (l l₁ l₂ l₃ l₄ l₅ s t u v w : List ℕ) → l₁ ≡ l ++ s → l₂ ≡ l₁ ++ t → l₃ ≡ l₂ ++ u → l₄ ≡ l₃ ++ v → l₅ ≡ l₄ ++ w
+pub appends-five : (l l₁ l₂ l₃ l₄ l₅ s t u v w : List ℕ) → l₁ ≡ l ++ s → l₂ ≡ l₁ ++ t → l₃ ≡ l₂ ++ u → l₄ ≡ l₃
+    ++ v → l₅ ≡ l₄ ++ w
     → l₅ ≡ l ++ (s ++ t ++ u ++ v ++ w)
 appends-five l l₁ l₂ l₃ l₄ l₅ s t u v w a b c d e =
     e ∙ ap (λ (k : List ℕ). k ++ w) (d ∙ ap (λ (k : List ℕ). k ++ v) (c ∙ ap (λ (k : List ℕ). k ++ u) (b ∙ ap (λ (k : List ℕ). k ++ t) a)))
@@ -72,7 +76,8 @@ appends-five l l₁ l₂ l₃ l₄ l₅ s t u v w a b c d e =
 
 -- the appends that make up a record
 pub appends-record : (l l₁ l₂ l₃ l₄ l₅ l₆ l₇ l₈ : List ℕ) (used perms : ℕ) (count owner size name pad extents rest : List ℕ)
-    → l₁ ≡ l ++ used ∷ [] → l₂ ≡ l₁ ++ perms ∷ [] → l₃ ≡ l₂ ++ count → l₄ ≡ l₃ ++ owner → l₅ ≡ l₄ ++ size → l₆ ≡ l₅ ++ name ++ pad
+    → l₁ ≡ l ++ used ∷ [] → l₂ ≡ l₁ ++ perms ∷ [] → l₃ ≡ l₂ ++ count → l₄ ≡ l₃ ++ owner → l₅ ≡ l₄ ++ size
+    → l₆ ≡ l₅ ++ name ++ pad
     → l₇ ≡ l₆ ++ extents → l₈ ≡ l₇ ++ rest
     → l₈ ≡ l ++ (used ∷ perms ∷ count ++ owner ++ size ++ name ++ pad ++ extents ++ rest)
 appends-record l l₁ l₂ l₃ l₄ l₅ l₆ l₇ l₈ used perms count owner size name pad extents rest a b c d e f g h =
@@ -85,5 +90,7 @@ appends-record l l₁ l₂ l₃ l₄ l₅ l₆ l₇ l₈ used perms count owner 
     f ∙ ap (λ (k : List ℕ). k ++ name ++ pad) numbers
     ∙ ap (λ (k : List ℕ). k ++ pad) (append_assoc l (used ∷ perms ∷ count ++ owner ++ size) name)
     ∙ append_assoc l (used ∷ perms ∷ count ++ owner ++ size ++ name) pad in
-    h ∙ ap (λ (k : List ℕ). k ++ rest) (g ∙ ap (λ (k : List ℕ). k ++ extents) named ∙ append_assoc l (used ∷ perms ∷ count ++ owner ++ size ++ name ++ pad) extents)
+    h ∙ ap (λ (k : List ℕ). k ++ rest)
+    (g ∙ ap (λ (k : List ℕ). k ++ extents) named
+    ∙ append_assoc l (used ∷ perms ∷ count ++ owner ++ size ++ name ++ pad) extents)
     ∙ append_assoc l (used ∷ perms ∷ count ++ owner ++ size ++ name ++ pad ++ extents) rest

@@ -1,5 +1,6 @@
 -- Where the header, the bitmap, the records and the data stand in the image of a volume whose files are those of an image.
-use Rattle.std.proofs.Common.{◌≡◌, ◌<◌, ◌+◌, ◌-◌, ◌*◌, inl, inr, ℕ, List, ◌++◌, Option, Some, None, length, drop, get_or, refl, ap, sym, ◌∙◌, subst, arith}
+use Rattle.std.proofs.Common.{◌≡◌, ◌<◌, ◌+◌, ◌-◌, ◌*◌, inl, inr, ℕ, List, ◌++◌, Option, Some, None, length}
+use Rattle.std.proofs.Common.{drop, get_or, refl, ap, sym, ◌∙◌, subst, arith}
 use Rattle.std.proofs.lemmas.Bool.{cases_lt}
 use Rattle.std.proofs.lemmas.List.{drop_at, get_or_past, length-append, length-drop, length-replicate}
 use Rattle.std.proofs.lemmas.List.Elements.{All-weaker}
@@ -37,7 +38,8 @@ file-there files j file at =
     ]
 
 -- each file has room in its record
-pub fits-file : (total : ℕ) (files : List (Option Inode)) (j : ℕ) (file : Inode) → AreFiles total files → get_or files j None ≡ Some file → FitsRecord file
+pub fits-file : (total : ℕ) (files : List (Option Inode)) (j : ℕ) (file : Inode) → AreFiles total files
+    → get_or files j None ≡ Some file → FitsRecord file
 fits-file total files j file are at =
     subst (λ (slot : Option Inode). IfSome slot FitsRecord) at (AreFiles-fit total files are j None (file-there files j file at))
 
@@ -58,7 +60,8 @@ length-bitmap n inodes = length-map-range_with_len (λ i. bitmap_byte inodes (8 
 
 -- four lists in a row
 four-stand : (h i r d : List ℕ) → length h ≡ 4096 → length i ≡ 4096
-    → Stands (h ++ i ++ r ++ d) 0 h × Stands (h ++ i ++ r ++ d) 4096 i × Stands (h ++ i ++ r ++ d) 8192 r × (drop (8192 + length r) (h ++ i ++ r ++ d) ≡ d)
+    → Stands (h ++ i ++ r ++ d) 0 h × Stands (h ++ i ++ r ++ d) 4096 i × Stands (h ++ i ++ r ++ d) 8192 r
+    × (drop (8192 + length r) (h ++ i ++ r ++ d) ≡ d)
 four-stand h i r d lh li =
     let b : List ℕ = h ++ i ++ r ++ d in
     let all : Stands b 0 (h ++ i ++ r) = record { rest = d; is = refl } in
@@ -98,12 +101,14 @@ ImageStands-from_files v are =
     }
 
 -- the record of a slot stands at its place
-pub record-stands : (v : Volume) (j : ℕ) → AreFiles v.total v.inodes → j < length v.inodes → Stands (image_of v) (record_place j) (record_bytes (get_or v.inodes j None))
+pub record-stands : (v : Volume) (j : ℕ) → AreFiles v.total v.inodes → j < length v.inodes
+    → Stands (image_of v) (record_place j) (record_bytes (get_or v.inodes j None))
 record-stands v j are low =
     Stands-piece record_bytes (image_of v) 256 v.inodes 8192 j None (records-long v.total v.inodes are) low (ImageStands-from_files v are).records
 
 -- a file that the volume has stands in its record
-pub file-stands : (v : Volume) (j : ℕ) (file : Inode) → AreFiles v.total v.inodes → get_or v.inodes j None ≡ Some file → RecordStands (image_of v) (record_place j) file
+pub file-stands : (v : Volume) (j : ℕ) (file : Inode) → AreFiles v.total v.inodes
+    → get_or v.inodes j None ≡ Some file → RecordStands (image_of v) (record_place j) file
 file-stands v j file are at =
     RecordStands-from_bytes (image_of v) (record_place j) file (fits-file v.total v.inodes j file are at)
     (subst (λ slot. Stands (image_of v) (record_place j) (record_bytes slot)) at (record-stands v j are (file-there v.inodes j file at)))

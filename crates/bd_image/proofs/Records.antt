@@ -1,5 +1,6 @@
 -- The records of an image are those of its volume's files.
-use Rattle.std.proofs.Common.{◌≡◌, ◌≤◌, ◌<◌, ◌+◌, ◌-◌, ◌*◌, inl, inr, ℕ, eqb, List, [], ◌∷◌, ◌++◌, Some, None, length, map, replicate, refl, ap, sym, ◌∙◌, arith, append_assoc}
+use Rattle.std.proofs.Common.{◌≡◌, ◌≤◌, ◌<◌, ◌+◌, ◌-◌, ◌*◌, inl, inr, ℕ, eqb, List, [], ◌∷◌, ◌++◌, Some, None}
+use Rattle.std.proofs.Common.{length, map, replicate, refl, ap, sym, ◌∙◌, arith, append_assoc}
 use Rattle.std.proofs.lemmas.Bool.{cases_eq, cond-false, cond-true, eq-eqb, ne_eqb}
 use Rattle.std.proofs.lemmas.List.Folds.{flat_map-map}
 use Rattle.std.proofs.lemmas.List.FromFn.{length-map-range_with_len}
@@ -8,14 +9,16 @@ use Rattle.byteorder.specs.Endian.{little_bytes}
 use Rattle.bd_base.specs.declared.volume.Extent.{Extent}
 use Rattle.bd_base.specs.Bytes.{AreBytes}
 use Rattle.bd_base.specs.Extents.{AreMaximal, extents_of}
-use Rattle.bd_image.specs.Layout.{IsUsed, blocks_at, extent_at, extent_count, extent_place, extents_at, inode_count, name_at, name_field, owner_at, perms_at, record_place, size_at, used_mark}
+use Rattle.bd_image.specs.Layout.{IsUsed, blocks_in_image, extent_at, extent_count, extent_place, extents_at}
+use Rattle.bd_image.specs.Layout.{inode_count, name_at, name_field, owner_at, perms_at, record_place, size_in_image}
+use Rattle.bd_image.specs.Layout.{used_mark}
 use Rattle.bd_image.specs.Rules.{Obeys, ExtentCount, ExtentJoins, ExtentRange, FreeRecord, IsNameField, NameForm, RecordRest, UsedMark}
-use Rattle.bd_image.specs.Volumes.{extent_bytes, file_bytes, inode_at, record_bytes}
-use Rattle.bd_extents.proofs.Runs.{extents_of-blocks_of}
-use Rattle.bd_image.proofs.Runs.{AreMaximal-map}
+use Rattle.bd_image.specs.Volumes.{extent_bytes, file_bytes, inode_in_image, record_bytes}
+use Rattle.bd_extents.proofs.ExtentLists.{extents_of-blocks_of}
+use Rattle.bd_image.proofs.ExtentBlocks.{AreMaximal-map}
 use Rattle.bd_image.proofs.Names.{name-field}
 use Rattle.bd_image.proofs.Parts.{part, part-add, part-number, part-one, part-pieces, part-zeros, same_append}
-use Rattle.bd_image.proofs.Taken.{file_at, inodes_of}
+use Rattle.bd_image.proofs.Taken.{file_in_image, inodes_of}
 
 -- the extents of a used record are maximal
 pub AreMaximal-extents_at : (b : List ℕ) (j : ℕ) → Obeys b ExtentRange → Obeys b ExtentJoins → IsUsed b j → AreMaximal (extents_at b j)
@@ -25,8 +28,9 @@ AreMaximal-extents_at b j range joins used =
     (λ e low high. joins j e (used, omega arith))
 
 -- the extents that its blocks give are its extents
-pub extents_of-blocks_at : (b : List ℕ) (j : ℕ) → Obeys b ExtentRange → Obeys b ExtentJoins → IsUsed b j → extents_of (blocks_at b j) ≡ extents_at b j
-extents_of-blocks_at b j range joins used = extents_of-blocks_of (extents_at b j) (AreMaximal-extents_at b j range joins used)
+pub extents_of-blocks_in_image : (b : List ℕ) (j : ℕ) → Obeys b ExtentRange → Obeys b ExtentJoins → IsUsed b j
+    → extents_of (blocks_in_image b j) ≡ extents_at b j
+extents_of-blocks_in_image b j range joins used = extents_of-blocks_of (extents_at b j) (AreMaximal-extents_at b j range joins used)
 
 extent-part : (b : List ℕ) (j e : ℕ) → AreBytes b → extent_place j e + 8 ≤ length b → extent_bytes (extent_at b j e) ≡ part b (extent_place j e) 8
 extent-part b j e are within =
@@ -60,7 +64,7 @@ record_parts b r n few =
 
 -- what stands before the name
 front_part : (b : List ℕ) (j : ℕ) → AreBytes b → record_place j + 16 ≤ length b → IsUsed b j
-    → 1 ∷ perms_at b j ∷ little_bytes 2 (extent_count b j) ++ little_bytes 4 (owner_at b j) ++ little_bytes 8 (size_at b j)
+    → 1 ∷ perms_at b j ∷ little_bytes 2 (extent_count b j) ++ little_bytes 4 (owner_at b j) ++ little_bytes 8 (size_in_image b j)
     ≡ part b (record_place j) 2 ++ part b (record_place j + 2) 2 ++ part b (record_place j + 4) 4 ++ part b (record_place j + 8) 8
 front_part b j are within used =
     let r : ℕ = record_place j in
@@ -75,14 +79,14 @@ front_part b j are within used =
 
 -- the record of a used file
 used_part : (b : List ℕ) (j : ℕ) → AreBytes b → record_place j + 256 ≤ length b → IsUsed b j → extent_count b j ≤ 24
-    → IsNameField (name_field b j) → Obeys b RecordRest → extents_of (blocks_at b j) ≡ extents_at b j
-    → file_bytes (file_at b j) ≡ part b (record_place j) 256
+    → IsNameField (name_field b j) → Obeys b RecordRest → extents_of (blocks_in_image b j) ≡ extents_at b j
+    → file_bytes (file_in_image b j) ≡ part b (record_place j) 256
 unfolding file_bytes
 used_part b j are within used few name rest extents =
     let r : ℕ = record_place j in
     let n : ℕ = extent_count b j in
     let front : List ℕ → ℕ → List ℕ =
-    λ es k. 1 ∷ perms_at b j ∷ little_bytes 2 k ++ little_bytes 4 (owner_at b j) ++ little_bytes 8 (size_at b j)
+    λ es k. 1 ∷ perms_at b j ∷ little_bytes 2 k ++ little_bytes 4 (owner_at b j) ++ little_bytes 8 (size_in_image b j)
     ++ name_at b j ++ replicate (32 - length (name_at b j)) 0 ++ es ++ replicate (8 * (24 - k) + 16) 0 in
     let count : length (extents_at b j) ≡ n = length-map-range_with_len (extent_at b j) 0 n in
     let zeros : replicate (8 * (24 - n) + 16) 0 ≡ part b (r + 48 + 8 * n) (8 * (24 - n) + 16) =
@@ -91,7 +95,7 @@ used_part b j are within used few name rest extents =
     ∙ ap (front (flat_map extent_bytes (extents_at b j))) count
     ∙ same_append
     (same_append
-    (append_assoc (1 ∷ perms_at b j ∷ little_bytes 2 n ++ little_bytes 4 (owner_at b j) ++ little_bytes 8 (size_at b j)) (name_at b j)
+    (append_assoc (1 ∷ perms_at b j ∷ little_bytes 2 n ++ little_bytes 4 (owner_at b j) ++ little_bytes 8 (size_in_image b j)) (name_at b j)
     (replicate (32 - length (name_at b j)) 0)
     ∙ same_append (front_part b j are (omega arith) used) (name-field (name_field b j) name))
     (extents-part b j n are (omega arith)))
@@ -101,16 +105,16 @@ used_part b j are within used few name rest extents =
 -- the record of any file
 record-part : (b : List ℕ) (j : ℕ) → AreBytes b → record_place j + 256 ≤ length b → j < inode_count b
     → Obeys b UsedMark → Obeys b FreeRecord → Obeys b ExtentCount → Obeys b NameForm → Obeys b RecordRest → Obeys b ExtentRange
-    → Obeys b ExtentJoins → record_bytes (inode_at b j) ≡ part b (record_place j) 256
+    → Obeys b ExtentJoins → record_bytes (inode_in_image b j) ≡ part b (record_place j) 256
 record-part b j are within there marks free count name rest range joins =
     elim (cases_eq (used_mark b j) 1) [
       | inl used ↦
-          ap record_bytes (cond-true (eqb (used_mark b j) 1) (Some (file_at b j)) None (eq-eqb (used_mark b j) 1 used))
+          ap record_bytes (cond-true (eqb (used_mark b j) 1) (Some (file_in_image b j)) None (eq-eqb (used_mark b j) 1 used))
           ∙ used_part b j are within (there, used) (count j (there, used)) (name j (there, used)) rest
-          (extents_of-blocks_at b j range joins (there, used))
+          (extents_of-blocks_in_image b j range joins (there, used))
       | inr unused ↦
           let none : used_mark b j ≡ 0 = omega (arith, marks j there) in
-          ap record_bytes (cond-false (eqb (used_mark b j) 1) (Some (file_at b j)) None (ne_eqb (used_mark b j) 1 unused))
+          ap record_bytes (cond-false (eqb (used_mark b j) 1) (Some (file_in_image b j)) None (ne_eqb (used_mark b j) 1 unused))
           ∙ part-zeros b (record_place j) 256 within (λ k low high. free j k there none low high)
     ]
 
@@ -119,6 +123,6 @@ pub records-part : (b : List ℕ) → AreBytes b → 8192 + 256 * inode_count b 
     → Obeys b UsedMark → Obeys b FreeRecord → Obeys b ExtentCount → Obeys b NameForm → Obeys b RecordRest → Obeys b ExtentRange
     → Obeys b ExtentJoins → flat_map record_bytes (inodes_of b) ≡ part b 8192 (256 * inode_count b)
 records-part b are within marks free count name rest range joins =
-    flat_map-map record_bytes (inode_at b) (range_with_len 0 (inode_count b))
-    ∙ part-pieces (λ j. record_bytes (inode_at b j)) b 256 8192 (inode_count b) 0
+    flat_map-map record_bytes (inode_in_image b) (range_with_len 0 (inode_count b))
+    ∙ part-pieces (λ j. record_bytes (inode_in_image b j)) b 256 8192 (inode_count b) 0
     (λ j low high. record-part b j are (omega arith) (omega arith) marks free count name rest range joins)

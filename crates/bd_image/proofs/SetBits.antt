@@ -1,5 +1,6 @@
 -- Setting a bit of a bitmap.
-use Rattle.std.proofs.Common.{◌≡◌, ◌≤◌, ◌<◌, ◌+◌, ◌*◌, ◌/◌, ◌%◌, ◌^◌, ℕ, Bool, true, false, eqb, ◌||◌, List, [], ◌∷◌, ◌++◌, ◌-◌, suc, length, get_or, set, refl, ap, sym, ◌∙◌, inl, inr, arith}
+use Rattle.std.proofs.Common.{◌≡◌, ◌≤◌, ◌<◌, ◌+◌, ◌*◌, ◌/◌, ◌%◌, ◌^◌, ℕ, Bool, true, false, eqb, ◌||◌, List, []}
+use Rattle.std.proofs.Common.{◌∷◌, ◌++◌, ◌-◌, suc, length, get_or, set, refl, ap, sym, ◌∙◌, inl, inr, arith}
 use Rattle.std.proofs.lemmas.Bool.{cases_eq, eq-eqb, ne_eqb}
 use Rattle.std.proofs.lemmas.List.{get_or-set_other, get_or-set_same}
 use Rattle.std.proofs.lemmas.Nat.Bits.{bit_at_set_other, bit_at_set_same}
@@ -10,7 +11,7 @@ use Rattle.bd_base.specs.Bytes.{AreBytes}
 use Rattle.std.specs.Prelude.{bit_or}
 use Rattle.std.proofs.lemmas.List.Folds.{list_any-append}
 use Rattle.std.specs.List.{list_any, range_with_len}
-use Rattle.bd_image.proofs.Bitmap.{range_with_len-more}
+use Rattle.bd_base.proofs.Ranges.{range_with_len-suc}
 use Rattle.bd_image.specs.Bits.{is_set}
 
 or-true : (b : Bool) → true ≡ (b || true)
@@ -62,9 +63,9 @@ or_assoc true b c = refl
 or_assoc false b c = refl
 
 -- one block more in a row
-pub run-more : (old : Bool) (y s x : ℕ) → s ≤ x
+pub range-more : (old : Bool) (y s x : ℕ) → s ≤ x
     → ((old || list_any (eqb y) (range_with_len s (x - s))) || eqb y x) ≡ (old || list_any (eqb y) (range_with_len s (x + 1 - s)))
-run-more old y s x from =
+range-more old y s x from =
     let last : s + (x - s) ≡ x = omega arith in
     let next : suc (x - s) ≡ x + 1 - s = omega arith in
     or_assoc old (list_any (eqb y) (range_with_len s (x - s))) (eqb y x)
@@ -72,7 +73,7 @@ run-more old y s x from =
     (ap (λ (b : Bool). list_any (eqb y) (range_with_len s (x - s)) || b) (or-false (eqb y x))
     ∙ sym (list_any-append (eqb y) (range_with_len s (x - s)) (x ∷ []))
     ∙ ap (λ (z : ℕ). list_any (eqb y) (range_with_len s (x - s) ++ z ∷ [])) (sym last)
-    ∙ ap (list_any (eqb y)) (sym (range_with_len-more s (x - s)))
+    ∙ ap (list_any (eqb y)) (sym (range_with_len-suc s (x - s)))
     ∙ ap (λ (n : ℕ). list_any (eqb y) (range_with_len s n)) next)
 
 -- a byte with a bit set is a byte

@@ -1,5 +1,6 @@
 -- Maps of taken blocks: what one more extent adds, and when an extent meets an earlier one.
-use Rattle.std.proofs.Common.{◌≡◌, ℕ, ◌+◌, ◌<◌, ◌≤◌, ◌↔◌, ◌⊎◌, Bool, List, length, refl, sym, ◌∙◌, subst, inl, inr, arith}
+use Rattle.std.proofs.Common.{◌≡◌, ℕ, ◌+◌, ◌<◌, ◌≤◌, ◌↔◌, ◌⊎◌, Bool, List, length, refl, sym, ◌∙◌, subst, inl}
+use Rattle.std.proofs.Common.{inr, arith}
 use Rattle.std.proofs.lemmas.Bool.{cases_lt}
 use Rattle.bd_base.specs.declared.volume.Extent.{Extent}
 use Rattle.bd_image.specs.Layout.{IsUsed, block_count, extent_at, extent_count, extent_place, inode_count, used_mark}
@@ -26,7 +27,10 @@ before_more b j e x here = (
 )
 
 -- the map after extent e of record j is marked too
-pub marks_more : (b : List ℕ) (taken after : List Bool) (j e : ℕ) → MarksBefore b taken j e → IsExtent b j e → length after ≡ length taken → ((x : ℕ) → x < length taken → IsTakenIn after x ↔ (IsTakenIn taken x ⊎ IsInExtent (extent_at b j e) x)) → MarksBefore b after j (e + 1)
+pub marks_more : (b : List ℕ) (taken after : List Bool) (j e : ℕ) → MarksBefore b taken j e → IsExtent b j e
+    → length after ≡ length taken
+    → ((x : ℕ) → x < length taken → IsTakenIn after x ↔ (IsTakenIn taken x ⊎ IsInExtent (extent_at b j e) x))
+    → MarksBefore b after j (e + 1)
 marks_more b taken after j e before here long step = record {
   long = long ∙ before.long;
   marks = λ x l.
@@ -37,14 +41,16 @@ marks_more b taken after j e before here long step = record {
       );
 }
 
-earlier_within : (b : List ℕ) (j n : ℕ) → ((d : ℕ) → IsExtent b j d → d < n) → (i d : ℕ) → IsExtent b i d → IsEarlier i d (j + 1) 0 → IsEarlier i d j n
+earlier_within : (b : List ℕ) (j n : ℕ) → ((d : ℕ) → IsExtent b j d → d < n) → (i d : ℕ) → IsExtent b i d
+    → IsEarlier i d (j + 1) 0 → IsEarlier i d j n
 earlier_within b j n all i d x h = elim h [
   | inl l ↦ elim (cases_lt i j) [ inl m ↦ inl m | inr m ↦ let e = same i j l m in inr (e, all d (subst (λ k. IsExtent b k d) e x)) ]
   | inr w ↦ absurd (omega (arith, w.1))
 ]
 
 -- the map before the next record, where all extents of this one are below n
-pub marks_end : (b : List ℕ) (taken : List Bool) (j n : ℕ) → MarksBefore b taken j n → ((d : ℕ) → IsExtent b j d → d < n) → MarksBefore b taken (j + 1) 0
+pub marks_end : (b : List ℕ) (taken : List Bool) (j n : ℕ) → MarksBefore b taken j n
+    → ((d : ℕ) → IsExtent b j d → d < n) → MarksBefore b taken (j + 1) 0
 marks_end b taken j n before all = record {
   long = before.long;
   marks = λ x l. (
@@ -54,16 +60,24 @@ marks_end b taken j n before all = record {
 }
 
 -- an extent none of whose blocks is marked shares none with an earlier one
-pub shares_none : (b : List ℕ) (taken : List Bool) (j e : ℕ) → MarksBefore b taken j e → (extent_at b j e).start + (extent_at b j e).length ≤ block_count b → ¬ ((x : ℕ) × IsInExtent (extent_at b j e) x × IsTakenIn taken x) → ¬ SharesEarlier b j e
+pub shares_none : (b : List ℕ) (taken : List Bool) (j e : ℕ) → MarksBefore b taken j e
+    → (extent_at b j e).start + (extent_at b j e).length ≤ block_count b
+    → ¬ ((x : ℕ) × IsInExtent (extent_at b j e) x × IsTakenIn taken x) → ¬ SharesEarlier b j e
 shares_none b taken j e before fits none s =
     let d : Extent = extent_at b s.0 s.1 in
     let g : Extent = extent_at b j e in
     let share : ShareBlock d g = s.4 in
     let at : (x : ℕ) → IsInExtent d x → IsInExtent g x → ⊥ = λ x u v. none (x, v, (before.marks x (omega (arith, v.1))).1 (s.0, s.1, s.2, s.3, u)) in
-    elim (cases_lt d.start g.start) [ inl l ↦ at g.start (omega arith, omega (arith, share.1)) (omega arith, omega (arith, share.3)) | inr m ↦ at d.start (omega arith, omega (arith, share.2)) (omega arith, omega (arith, share.0)) ]
+    elim (cases_lt d.start g.start) [
+      | inl l ↦ at g.start (omega arith, omega (arith, share.1)) (omega arith, omega (arith, share.3))
+      | inr
+          m ↦ at d.start (omega arith, omega (arith, share.2)) (omega arith, omega (arith, share.0))
+    ]
 
 -- an extent with a marked block shares it with an earlier one
-pub shares_some : (b : List ℕ) (taken : List Bool) (j e x : ℕ) → MarksBefore b taken j e → (extent_at b j e).start + (extent_at b j e).length ≤ block_count b → IsInExtent (extent_at b j e) x → IsTakenIn taken x → SharesEarlier b j e
+pub shares_some : (b : List ℕ) (taken : List Bool) (j e x : ℕ) → MarksBefore b taken j e
+    → (extent_at b j e).start + (extent_at b j e).length ≤ block_count b → IsInExtent (extent_at b j e) x
+    → IsTakenIn taken x → SharesEarlier b j e
 shares_some b taken j e x before fits here marked =
     let w = (before.marks x (omega (arith, here.1))).0 marked in
     (w.0, w.1, w.2, w.3, (omega (arith, w.4.0, here.1), omega (arith, w.4.1, here.0), omega (arith, w.4.0, w.4.1), omega (arith, here.0, here.1)))
@@ -79,7 +93,11 @@ pub record WalkedTo (b : List ℕ) (taken : List Bool) (j : ℕ) : Type 0 where
 
 walked_past : (b : List ℕ) (j : ℕ) → NoneBefore b j → ((e : ℕ) → IsExtent b j e → ¬ SharesEarlier b j e) → NoneBefore b (j + 1)
 walked_past b j none here i e l x =
-    elim (cases_lt i j) [ inl m ↦ none i e m x | inr m ↦ let P : ℕ → Type 0 = λ k. IsExtent b k e → ¬ SharesEarlier b k e in subst P (sym (same i j l m)) (here e) x ]
+    elim (cases_lt i j) [
+      | inl m ↦ none i e m x
+      | inr m ↦ let P : ℕ → Type 0 =
+          λ k. IsExtent b k e → ¬ SharesEarlier b k e in subst P (sym (same i j l m)) (here e) x
+    ]
 
 pub walked_used : (b : List ℕ) (taken after : List Bool) (j : ℕ) → WalkedTo b taken j → SharesNoneAndMarks b after j → WalkedTo b after (j + 1)
 walked_used b taken after j walked here = record { marks = here.marks; none = walked_past b j walked.none (λ e x. here.shares e x.1) }
@@ -94,7 +112,8 @@ pub walked_all : (b : List ℕ) (taken : List Bool) (j : ℕ) → WalkedTo b tak
 walked_all b taken j walked end i d k e x y l s = walked.none k e (omega (arith, y.0.0)) y (i, d, x, l, s)
 
 -- the first extent that shares a block stands at the least place
-pub least_share : (b : List ℕ) (taken : List Bool) (j e : ℕ) → WalkedTo b taken j → IsUsed b j → Obeys b ExtentCount → IsFirstShare b j e → IsLeastBreak b ExtentShares (extent_place j e)
+pub least_share : (b : List ℕ) (taken : List Bool) (j e : ℕ) → WalkedTo b taken j → IsUsed b j
+    → Obeys b ExtentCount → IsFirstShare b j e → IsLeastBreak b ExtentShares (extent_place j e)
 least_share b taken j e walked used counts first = record {
   breaks = (first.shares.0, first.shares.1, j, e, first.shares.2, (used, first.within), first.shares.3, first.shares.4, refl);
   least = λ q l (i, d, k, f, x, y, earlier, share, place).

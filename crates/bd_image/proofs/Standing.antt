@@ -1,5 +1,6 @@
 -- Lists that stand at a place of an image: how they split, and how bytes, numbers and pieces of one length are read from them.
-use Rattle.std.proofs.Common.{◌≡◌, ◌≤◌, ◌<◌, ◌+◌, ◌*◌, ◌^◌, ◌-◌, ℕ, zero, suc, List, [], ◌∷◌, ◌++◌, length, take, drop, get_or, replicate, ap, sym, ◌∙◌, append_assoc, arith}
+use Rattle.std.proofs.Common.{◌≡◌, ◌≤◌, ◌<◌, ◌+◌, ◌*◌, ◌^◌, ◌-◌, ℕ, zero, suc, List, [], ◌∷◌, ◌++◌, length}
+use Rattle.std.proofs.Common.{take, drop, get_or, replicate, ap, sym, ◌∙◌, append_assoc, arith}
 use Rattle.std.proofs.lemmas.List.{drop_at, drop-drop, get_or_append_left, get_or-drop, get_or-replicate, length-append, length-replicate, take_at}
 use Rattle.std.proofs.lemmas.List.Elements.{All-head, All-tail}
 use Rattle.std.specs.List.{All, flat_map}
@@ -45,7 +46,8 @@ Stands-zero b p n place low high h =
     ap (λ (k : ℕ). get_or b k 0) at ∙ Stands-byte b p (place - p) (replicate n 0) within h ∙ get_or-replicate n (place - p) 0 0 (omega arith)
 
 -- pieces of w bytes, one after the other
-pub Stands-piece : {X : Type 0} (f : X → List ℕ) (b : List ℕ) (w : ℕ) (xs : List X) (p j : ℕ) (d : X) → All (λ x. length (f x) ≡ w) xs → j < length xs
+pub Stands-piece : {X : Type 0} (f : X → List ℕ) (b : List ℕ) (w : ℕ) (xs : List X) (p j : ℕ) (d : X)
+    → All (λ x. length (f x) ≡ w) xs → j < length xs
     → Stands b p (flat_map f xs) → Stands b (p + w * j) (f (get_or xs j d))
 Stands-piece f b w [] p j d each low h = absurd (omega arith)
 Stands-piece f b w (x ∷ xs) p zero d each low h =

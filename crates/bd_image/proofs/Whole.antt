@@ -1,5 +1,6 @@
 -- An accepted image is the image of the volume that it says.
-use Rattle.std.proofs.Common.{◌≡◌, ◌≤◌, ◌+◌, ◌*◌, ◌%◌, ℕ, List, [], ◌++◌, Option, length, drop, replicate, refl, ap, sym, ◌∙◌, subst, arith}
+use Rattle.std.proofs.Common.{◌≡◌, ◌≤◌, ◌+◌, ◌*◌, ◌%◌, ℕ, List, [], ◌++◌, Option, length, drop, replicate, refl}
+use Rattle.std.proofs.Common.{ap, sym, ◌∙◌, subst, arith}
 use Rattle.std.proofs.lemmas.List.{drop_at, length-replicate, take-append-drop}
 use Rattle.std.specs.List.{flat_map}
 use Rattle.bd_base.specs.declared.volume.Inode.{Inode}
@@ -7,7 +8,8 @@ use Rattle.bd_base.specs.declared.volume.Volume.{Volume}
 use Rattle.bd_base.specs.Bytes.{AreBytes}
 use Rattle.bd_base.specs.Files.{data_start}
 use Rattle.bd_image.specs.Layout.{block_count, inode_count}
-use Rattle.bd_image.specs.Rules.{Accepted, Bitmap, ExtentCount, ExtentJoins, ExtentRange, FreeRecord, HeaderRest, InodeCount, Length, Magic, NameForm, RecordRest, UsedMark, Version}
+use Rattle.bd_image.specs.Rules.{Accepted, Bitmap, ExtentCount, ExtentJoins, ExtentRange, FreeRecord}
+use Rattle.bd_image.specs.Rules.{HeaderRest, InodeCount, Length, Magic, NameForm, RecordRest, UsedMark, Version}
 use Rattle.bd_image.specs.Volumes.{AcceptedVolume, bitmap_bytes, header_bytes, image_of, record_bytes, volume_of}
 use Rattle.bd_image.proofs.Bitmap.{bitmap-part}
 use Rattle.bd_image.proofs.Header.{header-part}
@@ -26,7 +28,9 @@ four_parts b m =
     ∙ take-append-drop (8192 + 256 * m) b
 
 -- what is left of the volume's bytes past the metadata
-data-part : (b : List ℕ) (m : ℕ) → m % 16 ≡ 0 → drop (4096 * data_start m) (replicate (4096 * data_start m) 0 ++ drop (4096 * data_start m) b) ≡ drop (8192 + 256 * m) b
+data-part : (b : List ℕ) (m : ℕ) → m % 16 ≡ 0
+    → drop (4096 * data_start m) (replicate (4096 * data_start m) 0 ++ drop (4096 * data_start m) b)
+    ≡ drop (8192 + 256 * m) b
 data-part b m h =
     drop_at (replicate (4096 * data_start m) 0) (drop (4096 * data_start m) b) (4096 * data_start m) (length-replicate (4096 * data_start m) 0)
     ∙ ap (λ (k : ℕ). drop k b) (data_place m h)
@@ -68,7 +72,8 @@ pub appends-image : (v : Volume) (l l₁ l₂ l₃ l₄ bytes : List ℕ) (inode
 unfolding image_of
 appends-image v l l₁ l₂ l₃ l₄ bytes inodes same whole sixteen empty a b c d =
     let head : l₁ ≡ header_bytes v.total (length v.inodes) =
-    a ∙ ap (λ (k : List ℕ). k ++ header_bytes v.total (length inodes)) empty ∙ ap (λ (xs : List (Option Inode)). header_bytes v.total (length xs)) same in
+    a ∙ ap (λ (k : List ℕ). k ++ header_bytes v.total (length inodes)) empty
+    ∙ ap (λ (xs : List (Option Inode)). header_bytes v.total (length xs)) same in
     let bits : l₂ ≡ header_bytes v.total (length v.inodes) ++ bitmap_bytes v.inodes =
     b ∙ same_append head (ap bitmap_bytes same) in
     let records : l₃ ≡ header_bytes v.total (length v.inodes) ++ bitmap_bytes v.inodes ++ flat_map record_bytes v.inodes =

@@ -1,12 +1,13 @@
 -- What the image of a sound volume reads back as: as many records and blocks as the volume has, its files in its records, its bitmap and its bytes.
-use Rattle.std.proofs.Common.{◌≡◌, ◌≤◌, ◌<◌, ◌+◌, ◌-◌, ◌*◌, ℕ, Option, Some, None, length, take, drop, get_or, refl, ap, sym, ◌∙◌, subst, arith}
+use Rattle.std.proofs.Common.{◌≡◌, ◌≤◌, ◌<◌, ◌+◌, ◌-◌, ◌*◌, ℕ, Option, Some, None, length, take, drop, get_or}
+use Rattle.std.proofs.Common.{refl, ap, sym, ◌∙◌, subst, arith}
 use Rattle.bd_base.specs.declared.limits.TheConstants.{BLOCK_SIZE}
 use Rattle.bd_base.specs.declared.volume.Inode.{Inode}
 use Rattle.bd_base.specs.declared.volume.Volume.{Volume}
 use Rattle.bd_base.specs.Extents.{extents_of}
 use Rattle.bd_base.specs.Volumes.{IsSoundVolume, metadata_size}
 use Rattle.bd_image.specs.declared.layout.TheConstants.{BITMAP_PLACE}
-use Rattle.bd_image.specs.Layout.{IsUsed, block_count, extents_at, inode_count, record_place, size_at, used_mark}
+use Rattle.bd_image.specs.Layout.{IsUsed, block_count, extents_at, inode_count, record_place, size_in_image, used_mark}
 use Rattle.bd_image.specs.Volumes.{bitmap_bytes, image_of, record_bytes}
 use Rattle.bd_image.proofs.Fields.{RecordStands, written-extents, written-mark, written-size}
 use Rattle.bd_image.proofs.InDataArea.{in_data_area}
@@ -59,7 +60,8 @@ written-used v h j file at = (
 )
 
 -- the record of a free slot is all zeros
-pub written-free : (v : Volume) (j place : ℕ) → IsSoundVolume v → get_or v.inodes j None ≡ None → j < length v.inodes → record_place j ≤ place → place < record_place j + 256
+pub written-free : (v : Volume) (j place : ℕ) → IsSoundVolume v → get_or v.inodes j None ≡ None
+    → j < length v.inodes → record_place j ≤ place → place < record_place j + 256
     → get_or (image_of v) place 0 ≡ 0
 written-free v j place h free there low high =
     Stands-zero (image_of v) (record_place j) 256 place low high
@@ -78,7 +80,7 @@ file-of_used v j h used = found (get_or v.inodes j None) refl
 
 -- the fields of a file's record are those of the file
 pub written-fields : (v : Volume) (j : ℕ) (file : Inode) → IsSoundVolume v → get_or v.inodes j None ≡ Some file
-    → (size_at (image_of v) j ≡ file.size) × (extents_at (image_of v) j ≡ extents_of file.blocks)
+    → (size_in_image (image_of v) j ≡ file.size) × (extents_at (image_of v) j ≡ extents_of file.blocks)
 written-fields v j file h at =
     let stands : RecordStands (image_of v) (record_place j) file = file-stands v j file h.files at in
     let size : file.size ≤ 16777216 = (h.files.valid.each j file at).size_in_range in
@@ -92,7 +94,7 @@ written-fields v j file h at =
 
 -- a used record has a file, whose fields are those of the record
 pub written-file : (v : Volume) → IsSoundVolume v → (j : ℕ) → IsUsed (image_of v) j →
-    (file : Inode) × (get_or v.inodes j None ≡ Some file) × (size_at (image_of v) j ≡ file.size) × (extents_at (image_of v) j ≡ extents_of file.blocks)
+    (file : Inode) × (get_or v.inodes j None ≡ Some file) × (size_in_image (image_of v) j ≡ file.size) × (extents_at (image_of v) j ≡ extents_of file.blocks)
 written-file v h j used =
     let (file, at) = file-of_used v j h used in
     let (size, extents) = written-fields v j file h at in

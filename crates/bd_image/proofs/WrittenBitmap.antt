@@ -1,5 +1,7 @@
 -- The bitmap of the image of a sound volume has a bit set for just the taken blocks.
-use Rattle.std.proofs.Common.{◌≡◌, ◌<◌, ◌+◌, ◌-◌, ◌*◌, ◌/◌, ◌%◌, ◌^◌, inl, inr, ℕ, zero, suc, Bool, true, false, cond, eqb, ltb, List, Option, None, Some, length, get_or, refl, sym, ap, ◌∙◌, subst, arith}
+use Rattle.std.proofs.Common.{◌≡◌, ◌<◌, ◌+◌, ◌-◌, ◌*◌, ◌/◌, ◌%◌, ◌^◌, inl, inr, ℕ, zero, suc, Bool, true, false}
+use Rattle.std.proofs.Common.{cond, eqb, ltb, List, Option, None, Some, length, get_or, refl, sym, ap, ◌∙◌}
+use Rattle.std.proofs.Common.{subst, arith}
 use Rattle.std.proofs.lemmas.Bool.{cases_lt, false≢true, lt-ltb, ltb-true, or_cases, or_left, or_right}
 use Rattle.std.proofs.lemmas.List.{get_or_default}
 use Rattle.std.proofs.lemmas.List.Folds.{Any-from_list_any, list_any_at}
@@ -12,10 +14,10 @@ use Rattle.bd_base.specs.declared.volume.Inode.{Inode}
 use Rattle.bd_base.specs.declared.volume.Volume.{Volume}
 use Rattle.bd_base.specs.Files.{data_start}
 use Rattle.bd_base.specs.Volumes.{IsSoundVolume}
-use Rattle.bd_image.specs.Layout.{IsUsed, blocks_at, is_marked}
-use Rattle.bd_image.specs.Rules.{Bitmap, IsTaken, Obeys}
-use Rattle.bd_image.specs.Volumes.{bitmap_byte, bitmap_front, image_of, is_taken, owns_block}
-use Rattle.bd_image.proofs.Bitmap.{range_with_len-more}
+use Rattle.bd_image.specs.Layout.{IsUsed, blocks_in_image, is_marked}
+use Rattle.bd_image.specs.Rules.{Bitmap, IsInUse, Obeys}
+use Rattle.bd_image.specs.Volumes.{bitmap_byte, bitmap_front, image_of, is_in_use, owns_block}
+use Rattle.bd_base.proofs.Ranges.{range_with_len-suc}
 use Rattle.bd_image.proofs.Parts.{get_or-part}
 use Rattle.bd_image.proofs.Taken.{Contains-from_any, any-from_Contains}
 use Rattle.bd_image.proofs.Written.{written-bitmap, written-inode_count, written-used}
@@ -38,7 +40,7 @@ number_of-more t n =
     let f : ℕ → ℕ = λ k. cond (t k) (2 ^ k) 0 in
     let last : 0 + n ≡ n = omega arith in
     let pushed : number_of t (suc n) ≡ number_of t n + f n =
-    ap (sum_by f) (range_with_len-more 0 n) ∙ sum_by_push f (range_with_len 0 n) (0 + n) ∙ ap (λ (k : ℕ). number_of t n + f k) last in
+    ap (sum_by f) (range_with_len-suc 0 n) ∙ sum_by_push f (range_with_len 0 n) (0 + n) ∙ ap (λ (k : ℕ). number_of t n + f k) last in
     let worth : f n ≡ cond (t n) 1 0 * 2 ^ n = bit_worth (t n) (2 ^ n) in
     omega arith
 
@@ -81,12 +83,12 @@ get_or-bitmap_front n inodes i low =
     get_or-map-range_with_len (λ k. bitmap_byte inodes (8 * k)) 0 n i i 0 low at
 
 -- a bit of a byte of a bitmap
-bit-bitmap_byte : (inodes : List (Option Inode)) (x k : ℕ) → k < 8 → eqb (bitmap_byte inodes x / 2 ^ k % 2) 1 ≡ is_taken inodes (x + k)
+bit-bitmap_byte : (inodes : List (Option Inode)) (x k : ℕ) → k < 8 → eqb (bitmap_byte inodes x / 2 ^ k % 2) 1 ≡ is_in_use inodes (x + k)
 unfolding bitmap_byte
-bit-bitmap_byte inodes x k low = bit-number_of (λ i. is_taken inodes (x + i)) 8 k low
+bit-bitmap_byte inodes x k low = bit-number_of (λ i. is_in_use inodes (x + i)) 8 k low
 
 -- the image marks a block where the volume has it as taken
-written-marks : (v : Volume) → IsSoundVolume v → (x : ℕ) → x < 32768 → is_marked (image_of v) x ≡ is_taken v.inodes x
+written-marks : (v : Volume) → IsSoundVolume v → (x : ℕ) → x < 32768 → is_marked (image_of v) x ≡ is_in_use v.inodes x
 written-marks v sound x low =
     let b : List ℕ = image_of v in
     let bit : ℕ → Bool = λ byte. eqb (byte / 2 ^ (x % 8) % 2) 1 in
@@ -95,12 +97,13 @@ written-marks v sound x low =
     sym (get_or-part b 4096 4096 (x / 8) (omega arith))
     ∙ ap (λ (xs : List ℕ). get_or xs (x / 8) 0) (written-bitmap v sound)
     ∙ get_or-bitmap_front 4096 v.inodes (x / 8) (omega arith) in
-    ap bit byte ∙ bit-bitmap_byte v.inodes (8 * (x / 8)) (x % 8) (omega arith) ∙ ap (is_taken v.inodes) place
+    ap bit byte ∙ bit-bitmap_byte v.inodes (8 * (x / 8)) (x % 8) (omega arith) ∙ ap (is_in_use v.inodes) place
 
 -- ---- which blocks are taken
 
 -- a file that owns a block
-owner : (inodes : List (Option Inode)) (x j : ℕ) (inode : Option Inode) → j < length inodes → get_or inodes j inode ≡ inode → owns_block x inode ≡ true
+owner : (inodes : List (Option Inode)) (x j : ℕ) (inode : Option Inode) → j < length inodes
+    → get_or inodes j inode ≡ inode → owns_block x inode ≡ true
     → (file : Inode) × (get_or inodes j None ≡ Some file) × Contains file.blocks x
 owner inodes x j None low at own = absurd (false≢true own)
 owner inodes x j (Some file) low at own =
@@ -108,7 +111,7 @@ owner inodes x j (Some file) low at own =
     (file, get_or_default inodes j d (Some file) low ∙ at, Contains-from_any file.blocks x own)
 
 -- a block that the volume has as taken is one that its image has as taken
-taken-from : (v : Volume) → IsSoundVolume v → (x : ℕ) → is_taken v.inodes x ≡ true → IsTaken (image_of v) x
+taken-from : (v : Volume) → IsSoundVolume v → (x : ℕ) → is_in_use v.inodes x ≡ true → IsInUse (image_of v) x
 taken-from v sound x h =
     let b : List ℕ = image_of v in
     elim (or_cases (ltb x (data_start (length v.inodes))) (list_any (owns_block x) v.inodes) h) [
@@ -119,12 +122,12 @@ taken-from v sound x h =
           let used : IsUsed b j = written-used v sound j file here in
           let w : IsWritten v b j = written v sound j used in
           let same : file ≡ w.file = same_Some file w.file (sym here ∙ w.at) in
-          let blocks : file.blocks ≡ blocks_at b j = ap (λ (f : Inode). f.blocks) same ∙ sym w.blocks in
+          let blocks : file.blocks ≡ blocks_in_image b j = ap (λ (f : Inode). f.blocks) same ∙ sym w.blocks in
           inr (j, used, subst (λ (xs : List ℕ). Contains xs x) blocks has)
     ]
 
 -- and the other way round
-taken-of : (v : Volume) → IsSoundVolume v → (x : ℕ) → IsTaken (image_of v) x → is_taken v.inodes x ≡ true
+taken-of : (v : Volume) → IsSoundVolume v → (x : ℕ) → IsInUse (image_of v) x → is_in_use v.inodes x ≡ true
 taken-of v sound x (inl metadata) =
     or_left (ltb x (data_start (length v.inodes))) (list_any (owns_block x) v.inodes)
     (lt-ltb x (data_start (length v.inodes)) (subst (λ (n : ℕ). x < data_start n) (written-inode_count v sound) metadata))
@@ -140,5 +143,5 @@ taken-of v sound x (inr (j, used, has)) =
 -- the bitmap marks just the taken blocks
 pub written-obeys-Bitmap : (v : Volume) → IsSoundVolume v → Obeys (image_of v) Bitmap
 written-obeys-Bitmap v sound x low =
-    let marks : is_marked (image_of v) x ≡ is_taken v.inodes x = written-marks v sound x low in
+    let marks : is_marked (image_of v) x ≡ is_in_use v.inodes x = written-marks v sound x low in
     (λ set. taken-from v sound x (sym marks ∙ set), λ taken. marks ∙ taken-of v sound x taken)

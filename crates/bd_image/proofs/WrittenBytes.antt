@@ -1,6 +1,10 @@
 -- The image of a sound volume consists of bytes.
-use Rattle.std.proofs.Common.{◌≡◌, ◌≤◌, ◌<◌, ◌+◌, ◌-◌, ◌*◌, ◌^◌, ℕ, zero, suc, Bool, true, false, cond, List, [], ◌∷◌, ◌++◌, Option, Some, None, length, drop, get_or, replicate, refl, ap, ◌∙◌, arith}
-use Rattle.std.proofs.lemmas.List.Elements.{All-append, All-cons, All-drop, All-from_get_or, All-from_recursion, All-head, All-map, All-nil, All-replicate, All-same, All-tail, All-weaker}
+use Rattle.std.proofs.Common.{◌≡◌, ◌≤◌, ◌<◌, ◌+◌, ◌-◌, ◌*◌, ◌^◌, ℕ, zero, suc, Bool, true, false, cond, List}
+use Rattle.std.proofs.Common.{[], ◌∷◌, ◌++◌, Option, Some, None, length, drop, get_or, replicate, refl, ap, ◌∙◌}
+use Rattle.std.proofs.Common.{arith}
+use Rattle.std.proofs.lemmas.List.Elements.{All-append, All-cons, All-drop, All-from_get_or, All-from_recursion}
+use Rattle.std.proofs.lemmas.List.Elements.{All-head, All-map, All-nil, All-replicate, All-same, All-tail}
+use Rattle.std.proofs.lemmas.List.Elements.{All-weaker}
 use Rattle.std.proofs.lemmas.List.Sums.{sum_by_push}
 use Rattle.std.proofs.Math.Nat.{pow-suc}
 use Rattle.std.specs.List.{All, flat_map, range_with_len, sum_by}
@@ -15,8 +19,8 @@ use Rattle.bd_base.specs.Files.{data_start}
 use Rattle.bd_base.specs.Inodes.{AreFiles}
 use Rattle.bd_base.specs.Names.{IsName, IsNameByte}
 use Rattle.bd_base.specs.Volumes.{IsSoundVolume}
-use Rattle.bd_image.specs.Volumes.{bitmap_byte, bitmap_bytes, bitmap_front, extent_bytes, file_bytes, header_bytes, image_of, is_taken, record_bytes}
-use Rattle.bd_image.proofs.Bitmap.{range_with_len-more}
+use Rattle.bd_image.specs.Volumes.{bitmap_byte, bitmap_bytes, bitmap_front, extent_bytes, file_bytes, header_bytes, image_of, is_in_use, record_bytes}
+use Rattle.bd_base.proofs.Ranges.{range_with_len-suc}
 use Rattle.bd_image.proofs.Fields.{padded, record_parts}
 use Rattle.bd_image.proofs.Numbers.{AreBytes-little_bytes}
 
@@ -35,7 +39,8 @@ four a b c d ha hb hc hd = both (a ++ b ++ c) d (both (a ++ b) c (both a b ha hb
 five : (a b c d e : List ℕ) → AreBytes a → AreBytes b → AreBytes c → AreBytes d → AreBytes e → AreBytes (a ++ b ++ c ++ d ++ e)
 five a b c d e ha hb hc hd he = both (a ++ b ++ c ++ d) e (four a b c d ha hb hc hd) he
 
-six : (a b c d e f : List ℕ) → AreBytes a → AreBytes b → AreBytes c → AreBytes d → AreBytes e → AreBytes f → AreBytes (a ++ b ++ c ++ d ++ e ++ f)
+six : (a b c d e f : List ℕ) → AreBytes a → AreBytes b → AreBytes c → AreBytes d → AreBytes e → AreBytes f
+    → AreBytes (a ++ b ++ c ++ d ++ e ++ f)
 six a b c d e f ha hb hc hd he hf = both (a ++ b ++ c ++ d ++ e) f (five a b c d e ha hb hc hd he) hf
 
 -- pieces of bytes, one after the other
@@ -63,8 +68,9 @@ bits-below t zero = let e : 0 < 1 = omega arith in e
 bits-below t (suc n) =
     let below : sum_by (λ k. cond (t k) (2 ^ k) 0) (range_with_len 0 n) < 2 ^ n = bits-below t n in
     let last : 0 + n ≡ n = omega arith in
-    let whole : sum_by (λ k. cond (t k) (2 ^ k) 0) (range_with_len 0 (suc n)) ≡ sum_by (λ k. cond (t k) (2 ^ k) 0) (range_with_len 0 n) + cond (t n) (2 ^ n) 0 =
-    ap (sum_by (λ k. cond (t k) (2 ^ k) 0)) (range_with_len-more 0 n)
+    let whole : sum_by (λ k. cond (t k) (2 ^ k) 0) (range_with_len 0 (suc n))
+    ≡ sum_by (λ k. cond (t k) (2 ^ k) 0) (range_with_len 0 n) + cond (t n) (2 ^ n) 0 =
+    ap (sum_by (λ k. cond (t k) (2 ^ k) 0)) (range_with_len-suc 0 n)
     ∙ sum_by_push (λ k. cond (t k) (2 ^ k) 0) (range_with_len 0 n) (0 + n)
     ∙ ap (λ (k : ℕ). sum_by (λ k. cond (t k) (2 ^ k) 0) (range_with_len 0 n) + cond (t k) (2 ^ k) 0) last in
     omega (arith, whole, below, pow-suc 2 n, bit-at_most (t n) (2 ^ n))
@@ -77,7 +83,8 @@ bits-below t (suc n) =
 AreBytes-bitmap : (n : ℕ) (inodes : List (Option Inode)) → AreBytes (bitmap_front n inodes)
 unfolding bitmap_front bitmap_byte
 AreBytes-bitmap n inodes =
-    All-map IsByte (λ i. bitmap_byte inodes (8 * i)) (range_with_len 0 n) (λ k d low. bits-below (λ x. is_taken inodes (8 * get_or (range_with_len 0 n) k d + x)) 8)
+    All-map IsByte (λ i. bitmap_byte inodes (8 * i)) (range_with_len 0 n)
+    (λ k d low. bits-below (λ x. is_in_use inodes (8 * get_or (range_with_len 0 n) k d + x)) 8)
 
 -- a byte of a name
 name-byte : (c : ℕ) → IsNameByte c → c < 256
@@ -88,9 +95,12 @@ AreBytes-file : (file : Inode) → file.perms < 16 → IsName file.name → AreB
 AreBytes-file file perms name =
     let n : ℕ = length (extents_of file.blocks) in
     let front : AreBytes (1 ∷ file.perms ∷ little_bytes 2 n) =
-    All-cons IsByte 1 (file.perms ∷ little_bytes 2 n) (omega arith) (All-cons IsByte file.perms (little_bytes 2 n) (omega arith) (AreBytes-little_bytes 2 0 n)) in
+    All-cons IsByte 1 (file.perms ∷ little_bytes 2 n) (omega arith)
+    (All-cons IsByte file.perms (little_bytes 2 n) (omega arith) (AreBytes-little_bytes 2 0 n)) in
     let named : AreBytes (padded file.name) =
-    both file.name (replicate (32 - length file.name) 0) (All-weaker IsNameByte IsByte name-byte file.name name.bytes) (AreBytes-zeros (32 - length file.name)) in
+    both file.name (replicate (32 - length file.name) 0)
+    (All-weaker IsNameByte IsByte name-byte file.name name.bytes)
+    (AreBytes-zeros (32 - length file.name)) in
     let extents : AreBytes (flat_map extent_bytes (extents_of file.blocks)) =
     AreBytes-pieces extent_bytes (extents_of file.blocks)
     (λ k d low.
@@ -103,7 +113,10 @@ AreBytes-file file perms name =
 
 -- and so do all records
 AreBytes-records : (total : ℕ) (files : List (Option Inode)) → AreFiles total files → AreBytes (flat_map record_bytes files)
-AreBytes-records total files are = AreBytes-pieces record_bytes files (All-from_get_or (λ slot. AreBytes (record_bytes slot)) files None (λ id low. each id (get_or files id None) refl))
+AreBytes-records total files are =
+    AreBytes-pieces record_bytes files
+    (All-from_get_or (λ slot. AreBytes (record_bytes slot)) files None
+    (λ id low. each id (get_or files id None) refl))
   where
     each : (id : ℕ) (slot : Option Inode) → get_or files id None ≡ slot → AreBytes (record_bytes slot)
     each id None at = AreBytes-zeros 256

@@ -8,20 +8,20 @@ use Rattle.bd_base.specs.Extents.{blocks_of, extents_of}
 use Rattle.bd_base.specs.Files.{blocks_for}
 use Rattle.bd_base.specs.Inodes.{IsValidFile}
 use Rattle.bd_base.specs.Volumes.{IsSoundVolume}
-use Rattle.bd_image.specs.Layout.{IsUsed, blocks_at, extent_at, extent_count, inode_count, size_at}
+use Rattle.bd_image.specs.Layout.{IsUsed, blocks_in_image, extent_at, extent_count, inode_count, size_in_image}
 use Rattle.bd_image.specs.Rules.{ExtentJoins, ExtentRange, IsInDataArea, Obeys, Size}
 use Rattle.bd_image.specs.Volumes.{image_of}
 use Rattle.bd_image.proofs.InDataArea.{in_data_area}
-use Rattle.bd_extents.proofs.Runs.{AreMaximal-extents_of, blocks_of-extents_of}
-use Rattle.bd_image.proofs.Runs.{apart-at}
+use Rattle.bd_extents.proofs.ExtentLists.{AreMaximal-extents_of, blocks_of-extents_of}
+use Rattle.bd_image.proofs.ExtentBlocks.{apart-at}
 use Rattle.bd_image.proofs.Written.{written-block_count, written-file, written-inode_count}
 
--- record j says a file of the volume: its size, its blocks, and the runs of its blocks as its extents
+-- record j says a file of the volume: its size, its blocks, and the extents of its blocks
 pub record IsWritten (v : Volume) (b : List ℕ) (j : ℕ) : Type 0 where
   pub file : Inode
   pub at : get_or v.inodes j None ≡ Some file
-  pub size : size_at b j ≡ file.size
-  pub blocks : blocks_at b j ≡ file.blocks
+  pub size : size_in_image b j ≡ file.size
+  pub blocks : blocks_in_image b j ≡ file.blocks
   pub count : extent_count b j ≡ length (extents_of file.blocks)
   pub extent : (e : ℕ) (d : Extent) → e < extent_count b j → extent_at b j e ≡ get_or (extents_of file.blocks) e d
   pub valid : IsValidFile v.total (length v.inodes) file
@@ -50,7 +50,7 @@ written-obeys-Size v sound j used =
     let w : IsWritten v (image_of v) j = written v sound j used in
     (rw w.size w.valid.size_in_range, ap length w.blocks ∙ w.valid.enough_blocks ∙ ap blocks_for (sym w.size))
 
--- the extents of a record are maximal runs, so none begins where the one before it ends
+-- the extents of a record are as long as can be, so none begins where the one before it ends
 pub written-obeys-ExtentJoins : (v : Volume) → IsSoundVolume v → Obeys (image_of v) ExtentJoins
 written-obeys-ExtentJoins v sound j e (used, low) =
     let b : List ℕ = image_of v in

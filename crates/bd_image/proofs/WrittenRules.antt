@@ -1,5 +1,6 @@
 -- The image of a sound volume obeys the rules of the header and of the fields of records.
-use Rattle.std.proofs.Common.{◌≡◌, ◌≤◌, ◌<◌, ◌+◌, ◌-◌, ◌*◌, ◌⊎◌, inl, inr, ℕ, not, eqb, Option, Some, None, length, get_or, refl, ap, sym, ◌∙◌, subst, arith}
+use Rattle.std.proofs.Common.{◌≡◌, ◌≤◌, ◌<◌, ◌+◌, ◌-◌, ◌*◌, ◌⊎◌, inl, inr, ℕ, not, eqb, Option, Some, None}
+use Rattle.std.proofs.Common.{length, get_or, refl, ap, sym, ◌∙◌, subst, arith}
 use Rattle.std.specs.List.{take_while}
 use Rattle.std.specs.Prelude.{codes}
 use Rattle.bd_base.specs.declared.volume.Inode.{Inode}
@@ -8,7 +9,9 @@ use Rattle.bd_base.specs.Extents.{extents_of}
 use Rattle.bd_base.specs.Volumes.{IsSoundVolume}
 use Rattle.bd_image.specs.Layout.{block_count, extent_count, inode_count, name_at, name_field, record_place, used_mark}
 use Rattle.bd_image.specs.Limits.{FitsRecord}
-use Rattle.bd_image.specs.Rules.{Obeys, IsInodeCount, IsNameField, BlockCount, ExtentCount, FreeRecord, HeaderRest, InodeCount, Length, Magic, NameForm, NameFresh, Perms, RecordRest, UsedMark, Version}
+use Rattle.bd_image.specs.Rules.{Obeys, IsInodeCount, IsNameField, BlockCount, ExtentCount, FreeRecord}
+use Rattle.bd_image.specs.Rules.{HeaderRest, InodeCount, Length, Magic, NameForm, NameFresh, Perms, RecordRest}
+use Rattle.bd_image.specs.Rules.{UsedMark, Version}
 use Rattle.bd_image.specs.Volumes.{image_of}
 use Rattle.bd_image.proofs.Fields.{RecordStands, written-count, written-mark, written-name, written-perms}
 use Rattle.bd_image.proofs.Names.{name-found}
@@ -45,7 +48,13 @@ written-obeys-BlockCount v h =
 -- its number of records is one that an image may have
 pub written-obeys-InodeCount : (v : Volume) → IsSoundVolume v → Obeys (image_of v) InodeCount
 written-obeys-InodeCount v h =
-    subst IsInodeCount (sym (written-inode_count v h)) (record { whole_blocks = h.files.whole_blocks; least = h.files.some_room; most = h.files.valid.few_files })
+    subst IsInodeCount (sym (written-inode_count v h))
+    (record {
+      whole_blocks = h.files.whole_blocks;
+      least = h.files.some_room;
+      most =
+          h.files.valid.few_files;
+    })
 
 -- the rest of its first block is zero
 pub written-obeys-HeaderRest : (v : Volume) → IsSoundVolume v → Obeys (image_of v) HeaderRest
@@ -100,7 +109,8 @@ written-obeys-ExtentCount v h j used =
     omega (arith, written-count (image_of v) j file fits (file-stands v j file h.files at))
 
 -- the field of a file's name
-pub written-name_field : (v : Volume) (j : ℕ) (file : Inode) → IsSoundVolume v → get_or v.inodes j None ≡ Some file → IsNameField (name_field (image_of v) j)
+pub written-name_field : (v : Volume) (j : ℕ) (file : Inode) → IsSoundVolume v
+    → get_or v.inodes j None ≡ Some file → IsNameField (name_field (image_of v) j)
 written-name_field v j file h at = record {
   name = file.name;
   is_name = h.files.names j file at;
@@ -108,7 +118,8 @@ written-name_field v j file h at = record {
 }
 
 -- the name that is read from it
-pub written-name_at : (v : Volume) (j : ℕ) (file : Inode) → IsSoundVolume v → get_or v.inodes j None ≡ Some file → name_at (image_of v) j ≡ file.name
+pub written-name_at : (v : Volume) (j : ℕ) (file : Inode) → IsSoundVolume v → get_or v.inodes j None ≡ Some file
+    → name_at (image_of v) j ≡ file.name
 unfolding written-name_field
 written-name_at v j file h at = name-found (name_field (image_of v) j) (written-name_field v j file h at)
 

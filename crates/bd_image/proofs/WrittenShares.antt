@@ -1,5 +1,6 @@
 -- No two extents of the image of a sound volume share a block.
-use Rattle.std.proofs.Common.{◌≡◌, ◌≤◌, ◌<◌, ◌+◌, inl, inr, ℕ, cond, eqb, List, Option, None, length, get_or, take, sym, ap, ◌∙◌, subst, arith}
+use Rattle.std.proofs.Common.{◌≡◌, ◌≤◌, ◌<◌, ◌+◌, inl, inr, ℕ, cond, eqb, List, Option, None, length, get_or}
+use Rattle.std.proofs.Common.{take, sym, ap, ◌∙◌, subst, arith}
 use Rattle.std.proofs.lemmas.Bool.{cases_lt, cond-true, eq-eqb}
 use Rattle.std.proofs.lemmas.List.{get_or-take, length-take}
 use Rattle.std.proofs.lemmas.List.Sums.{get_or-le-sum_by, sum_by_more_le}
@@ -8,20 +9,21 @@ use Rattle.bd_base.specs.declared.volume.Extent.{Extent}
 use Rattle.bd_base.specs.declared.volume.Inode.{Inode}
 use Rattle.bd_base.specs.declared.volume.Volume.{Volume}
 use Rattle.bd_base.specs.Extents.{extents_of}
-use Rattle.bd_base.specs.Inodes.{blocks_at}
+use Rattle.bd_base.specs.Inodes.{blocks_of_slot}
 use Rattle.bd_base.specs.Volumes.{IsSoundVolume}
 use Rattle.bd_image.specs.Layout.{extent_at}
 use Rattle.bd_image.specs.Rules.{ExtentShares, Obeys, ShareBlock}
 use Rattle.bd_image.specs.Sharing.{IsInExtent}
 use Rattle.bd_image.specs.Volumes.{image_of}
-use Rattle.bd_image.proofs.Marks.{range_of}
+use Rattle.bd_base.proofs.Ranges.{range-of}
 use Rattle.bd_image.proofs.Owned.{times, times-blocks_of, times_listed-files}
-use Rattle.bd_extents.proofs.Runs.{blocks_of-extents_of}
+use Rattle.bd_extents.proofs.ExtentLists.{blocks_of-extents_of}
 use Rattle.bd_image.proofs.Written.{written-inode_count}
 use Rattle.bd_image.proofs.WrittenExtents.{IsWritten, written}
 
 -- two terms of a sum are within it
-sum_by-two : {X : Type 0} (f : X → ℕ) (xs : List X) (i j : ℕ) (d : X) → i < j → j < length xs → f (get_or xs i d) + f (get_or xs j d) ≤ sum_by f xs
+sum_by-two : {X : Type 0} (f : X → ℕ) (xs : List X) (i j : ℕ) (d : X) → i < j → j < length xs
+    → f (get_or xs i d) + f (get_or xs j d) ≤ sum_by f xs
 sum_by-two f xs i j d less low =
     let first : f (get_or (take j xs) i d) ≤ sum_by f (take j xs) = get_or-le-sum_by f (take j xs) i d (omega (arith, length-take j xs)) in
     let same : f (get_or (take j xs) i d) ≡ f (get_or xs i d) = ap f (get_or-take j xs i d less) in
@@ -41,7 +43,7 @@ times_within x e = times x (range_with_len e.start e.length)
 
 -- a block that lies in an extent is there at least once
 within-of : (x : ℕ) (e : Extent) → IsInExtent e x → 1 ≤ times_within x e
-within-of x e h = times-of x (range_with_len e.start e.length) (range_of e.start e.length x h)
+within-of x e h = times-of x (range_with_len e.start e.length) (range-of e.start e.length x h)
 
 -- extents that share a block have one in common
 in_common : (d e : Extent) → ShareBlock d e → (x : ℕ) × IsInExtent d x × IsInExtent e x
@@ -56,7 +58,8 @@ times-extents : (x : ℕ) (blocks : List ℕ) → times x blocks ≡ sum_by (tim
 times-extents x blocks = ap (times x) (sym (blocks_of-extents_of blocks)) ∙ times-blocks_of x (extents_of blocks)
 
 -- a block in an extent of blocks is one of them
-times-one : (x : ℕ) (blocks : List ℕ) (e : ℕ) (d : Extent) → e < length (extents_of blocks) → IsInExtent (get_or (extents_of blocks) e d) x → 1 ≤ times x blocks
+times-one : (x : ℕ) (blocks : List ℕ) (e : ℕ) (d : Extent) → e < length (extents_of blocks)
+    → IsInExtent (get_or (extents_of blocks) e d) x → 1 ≤ times x blocks
 times-one x blocks e d low h =
     omega (arith, times-extents x blocks, get_or-le-sum_by (times_within x) (extents_of blocks) e d low, within-of x (get_or (extents_of blocks) e d) h)
 
@@ -80,7 +83,7 @@ written-obeys-ExtentShares v sound i d j e (used, low) (used', low') earlier sha
     let w' : IsWritten v b j = written v sound j used' in
     let (x, here, there) = in_common (extent_at b i d) (extent_at b j e) share in
     let o : Extent = extent_at b i d in
-    let f : Option Inode → ℕ = λ inode. times x (blocks_at inode) in
+    let f : Option Inode → ℕ = λ inode. times x (blocks_of_slot inode) in
     let none : Option Inode = None in
     let one : IsInExtent (get_or (extents_of w.file.blocks) d o) x = subst (λ (g : Extent). IsInExtent g x) (w.extent d o low) here in
     let other : IsInExtent (get_or (extents_of w'.file.blocks) e o) x = subst (λ (g : Extent). IsInExtent g x) (w'.extent e o low') there in
@@ -100,7 +103,8 @@ written-obeys-ExtentShares v sound i d j e (used, low) (used', low') earlier sha
             times-one x w'.file.blocks e o (omega (arith, low', w'.count)) other,
           )
       | inr (same, less) ↦
-          let both : extent_at b i d ≡ get_or (extents_of w'.file.blocks) d o = ap (λ (k : ℕ). extent_at b k d) same ∙ w'.extent d o (omega (arith, low', less)) in
+          let both : extent_at b i d ≡ get_or (extents_of w'.file.blocks) d o =
+          ap (λ (k : ℕ). extent_at b k d) same ∙ w'.extent d o (omega (arith, low', less)) in
           let one' : IsInExtent (get_or (extents_of w'.file.blocks) d o) x = subst (λ (g : Extent). IsInExtent g x) both here in
           omega (
             arith,

@@ -1,5 +1,6 @@
 -- The bytes past the sizes of files are zero in the image of a sound volume.
-use Rattle.std.proofs.Common.{◌≡◌, ◌≤◌, ◌<◌, ◌+◌, ◌-◌, ◌*◌, ◌/◌, ◌%◌, ℕ, IsTrue, List, [], ◌∷◌, ◌++◌, length, get_or, drop, sym, ap, ◌∙◌, subst, arith}
+use Rattle.std.proofs.Common.{◌≡◌, ◌≤◌, ◌<◌, ◌+◌, ◌-◌, ◌*◌, ◌/◌, ◌%◌, ℕ, IsTrue, List, [], ◌∷◌, ◌++◌, length}
+use Rattle.std.proofs.Common.{get_or, drop, sym, ap, ◌∙◌, subst, arith}
 use Rattle.std.proofs.Math.Seq.{get_or-append_seam}
 use Rattle.std.proofs.lemmas.List.{get_or-drop}
 use Rattle.std.proofs.lemmas.List.Elements.{All-contains}
@@ -9,7 +10,7 @@ use Rattle.bd_base.specs.Files.{data_start}
 use Rattle.bd_base.specs.Volumes.{IsSoundVolume}
 use Rattle.bd_image.specs.Rules.{Obeys, TailZero}
 use Rattle.bd_image.specs.Volumes.{image_of}
-use Rattle.bd_image.proofs.InDataArea.{data_block}
+use Rattle.bd_base.proofs.ValidFiles.{data_block-within}
 use Rattle.bd_image.proofs.Tails.{length-last}
 use Rattle.bd_image.proofs.Written.{written-data}
 use Rattle.bd_image.proofs.WrittenExtents.{IsWritten, written}
@@ -46,7 +47,7 @@ written-obeys-TailZero v sound j place used tail =
     let zero' : get_or v.bytes place 0 ≡ 0 =
     zero_past v.bytes w.file.blocks tail.front w.file.size tail.last place (sound.tails j w.file w.at) split past tail.within in
     let behind : (data_start (length v.inodes) ≤ tail.last) × (tail.last < v.total) =
-    data_block v.total (length v.inodes) tail.last
+    data_block-within v.total (length v.inodes) tail.last
     (All-contains (λ block. IsTrue (is_data_block v.total (length v.inodes) block)) w.file.blocks tail.last w.valid.in_data_area (
       length tail.front,
       omega (arith, ap length split, length-last tail.front tail.last),

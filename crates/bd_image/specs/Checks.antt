@@ -24,7 +24,9 @@ pub record IsFirstNonzero (b : List ℕ) (low high found : ℕ) : Type 0 where
 
 -- none of the first n extents of record j begins where the one before it ends
 abbrev pub HasNoJoin : List ℕ → ℕ → ℕ → Type 0
-HasNoJoin b j n = (e : ℕ) → e + 1 < n → (extent_at b j (e + 1)).start ≢ (extent_at b j e).start + (extent_at b j e).length
+HasNoJoin b j n = (e : ℕ) → e + 1 < n
+    → (extent_at b j (e + 1)).start ≢ (extent_at b j e).start +
+    (extent_at b j e).length
 
 -- the first extent of record j that begins where the one before it ends
 pub record IsFirstJoin (b : List ℕ) (j found : ℕ) : Type 0 where

@@ -52,8 +52,8 @@ abbrev pub owner_at : List ℕ → ℕ → ℕ
 owner_at b j = number_at 4 b (record_place j + OWNER_FIELD)
 
 -- its size in bytes
-abbrev pub size_at : List ℕ → ℕ → ℕ
-size_at b j = number_at 8 b (record_place j + SIZE_FIELD)
+abbrev pub size_in_image : List ℕ → ℕ → ℕ
+size_in_image b j = number_at 8 b (record_place j + SIZE_FIELD)
 
 -- the 32 bytes of record j's name
 abbrev pub name_field : List ℕ → ℕ → List ℕ
@@ -76,8 +76,8 @@ abbrev pub extents_at : List ℕ → ℕ → List Extent
 extents_at b j = map (extent_at b j) (range_with_len 0 (extent_count b j))
 
 -- the blocks of record j in order
-abbrev pub blocks_at : List ℕ → ℕ → List ℕ
-blocks_at b j = blocks_of (extents_at b j)
+abbrev pub blocks_in_image : List ℕ → ℕ → List ℕ
+blocks_in_image b j = blocks_of (extents_at b j)
 
 -- whether the bitmap marks block x
 abbrev pub is_marked : List ℕ → ℕ → Bool

@@ -4,6 +4,7 @@ pub mod Checks
 pub mod Layout
 pub mod Limits
 pub mod Names
+pub mod Places
 pub mod Refusals
 pub mod Rules
 pub mod Sharing

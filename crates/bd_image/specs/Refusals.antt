@@ -9,6 +9,6 @@ abbrev pub ObeysBelow : List ℕ → ℕ → Type 0
 ObeysBelow b n = (q : Rule) → rule_number q < n → Obeys b q
 
 -- the rule and the place that a refusal tells are the least; that no memory was found says nothing of the image
-abbrev pub IsRefusal : List ℕ → ImageError → Type 0
-IsRefusal b (BadImage rule place) = Broken b rule place
-IsRefusal b OutOfMemory = Unit {0}
+abbrev pub RefusesBytesOfImage : List ℕ → ImageError → Type 0
+RefusesBytesOfImage b (BadImage rule place) = Broken b rule place
+RefusesBytesOfImage b OutOfMemory = Unit {0}

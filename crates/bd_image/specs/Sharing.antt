@@ -1,10 +1,11 @@
 -- Blocks that extents share.
-use Rattle.std.specs.Prelude.{◌≡◌, ℕ, ◌+◌, ◌*◌, ◌<◌, ◌≤◌, ◌↔◌, ◌⊎◌, Bool, false, List, length, slice_index_or, Contains, IsTrue}
+use Rattle.std.specs.Prelude.{◌≡◌, ℕ, ◌+◌, ◌*◌, ◌<◌, ◌≤◌, ◌↔◌, ◌⊎◌, Bool, false, List}
+use Rattle.std.specs.Prelude.{length, slice_index_or, Contains, IsTrue}
 use Rattle.bd_base.specs.declared.limits.TheConstants.{BLOCK_SIZE}
 use Rattle.bd_base.specs.declared.volume.Extent.{Extent}
 use Rattle.bd_base.specs.Files.{data_start}
-use Rattle.bd_image.specs.Layout.{block_count, blocks_at, extent_at, extent_count, inode_count, used_mark}
-use Rattle.bd_image.specs.Rules.{IsEarlier, IsExtent, IsTaken, ShareBlock}
+use Rattle.bd_image.specs.Layout.{block_count, blocks_in_image, extent_at, extent_count, inode_count, used_mark}
+use Rattle.bd_image.specs.Rules.{IsEarlier, IsExtent, IsInUse, ShareBlock}
 
 -- the block is in the extent
 abbrev pub IsInExtent : Extent → ℕ → Type 0
@@ -25,7 +26,8 @@ pub record MarksBefore (b : List ℕ) (taken : List Bool) (j e : ℕ) : Type 0 w
 
 -- extent e of record j shares a block with an earlier one
 abbrev pub SharesEarlier : List ℕ → ℕ → ℕ → Type 0
-SharesEarlier b j e = (i : ℕ) × (d : ℕ) × IsExtent b i d × IsEarlier i d j e × ShareBlock (extent_at b i d) (extent_at b j e)
+SharesEarlier b j e = (i : ℕ) × (d : ℕ) × IsExtent b i d × IsEarlier i d j e
+    × ShareBlock (extent_at b i d) (extent_at b j e)
 
 -- none of the first n extents of record j shares a block with an earlier one
 abbrev pub SharesNone : List ℕ → ℕ → ℕ → Type 0
@@ -45,9 +47,11 @@ pub record SharesNoneAndMarks (b : List ℕ) (taken : List Bool) (j : ℕ) : Typ
 -- the map marks each block that is taken, and no others
 pub record MarksTaken (b : List ℕ) (taken : List Bool) : Type 0 where
   pub long : length taken ≡ 8 * BLOCK_SIZE
-  pub marks : (x : ℕ) → x < 8 * BLOCK_SIZE → IsTakenIn taken x ↔ IsTaken b x
+  pub marks : (x : ℕ) → x < 8 * BLOCK_SIZE → IsTakenIn taken x ↔ IsInUse b x
 
 -- the map marks the metadata and the blocks of the files among the first j records
 pub record MarksFiles (b : List ℕ) (taken : List Bool) (j : ℕ) : Type 0 where
   pub long : length taken ≡ 8 * BLOCK_SIZE
-  pub marks : (x : ℕ) → x < 8 * BLOCK_SIZE → IsTakenIn taken x ↔ ((x < data_start (inode_count b)) ⊎ ((i : ℕ) × (i < j) × (used_mark b i ≡ 1) × Contains (blocks_at b i) x))
+  pub marks : (x : ℕ) → x < 8 * BLOCK_SIZE
+      → IsTakenIn taken x ↔ ((x < data_start (inode_count b))
+      ⊎ ((i : ℕ) × (i < j) × (used_mark b i ≡ 1) × Contains (blocks_in_image b i) x))

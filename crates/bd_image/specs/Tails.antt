@@ -15,7 +15,8 @@ pub record IsFirstInTail (b : List ℕ) (j found : ℕ) : Type 0 where
 
 -- the tails of the first j records are zero below this place
 abbrev pub AreTailsZeroBelow : List ℕ → ℕ → ℕ → Type 0
-AreTailsZeroBelow b j place = (i q : ℕ) → i < j → IsUsed b i → q < place → IsInTail b i q → byte_at b q ≡ 0
+AreTailsZeroBelow b j place =
+    (i q : ℕ) → i < j → IsUsed b i → q < place → IsInTail b i q → byte_at b q ≡ 0
 
 -- the tails of the first j records are zero
 abbrev pub AreTailsZero : List ℕ → ℕ → Type 0

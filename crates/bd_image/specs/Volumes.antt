@@ -1,5 +1,7 @@
 -- The volume that an image says, and the image of a volume.
-use Rattle.std.specs.Prelude.{◌≡◌, ℕ, ◌+◌, ◌-◌, ◌*◌, ◌^◌, nat_eq, nat_lt, cond, Bool, false, ◌||◌, List, ◌∷◌, ◌++◌, map, drop, length, replicate, sum_by, Option, None, Some, codes}
+use Rattle.std.specs.Prelude.{◌≡◌, ℕ, ◌+◌, ◌-◌, ◌*◌, ◌^◌, nat_eq, nat_lt, cond, Bool}
+use Rattle.std.specs.Prelude.{false, ◌||◌, List, ◌∷◌, ◌++◌, map, drop, length}
+use Rattle.std.specs.Prelude.{replicate, sum_by, Option, None, Some, codes}
 use Rattle.std.specs.List.{range_with_len, list_any, flat_map}
 use Rattle.byteorder.specs.Endian.{little_bytes}
 use Rattle.bd_base.specs.declared.limits.TheConstants.{BLOCK_SIZE, EXTENTS}
@@ -10,14 +12,22 @@ use Rattle.bd_base.specs.Bytes.{AreBytes}
 use Rattle.bd_base.specs.Extents.{extents_of}
 use Rattle.bd_base.specs.Files.{data_start}
 use Rattle.bd_image.specs.declared.layout.TheConstants.{EXTENT_BYTES, HEADER_BYTES, RECORD_BYTES, VERSION}
-use Rattle.bd_image.specs.Layout.{block_count, blocks_at, inode_count, name_at, owner_at, perms_at, size_at, used_mark}
+use Rattle.bd_image.specs.Layout.{block_count, blocks_in_image, inode_count, name_at}
+use Rattle.bd_image.specs.Layout.{owner_at, perms_at, size_in_image, used_mark}
 use Rattle.bd_image.specs.Rules.{Accepted}
 
 -- the file that record j says, None where the record is free
-abbrev pub inode_at : List ℕ → ℕ → Option Inode
-inode_at b j =
+abbrev pub inode_in_image : List ℕ → ℕ → Option Inode
+inode_in_image b j =
     cond (nat_eq (used_mark b j) 1)
-    (Some (record { name = name_at b j; owner = owner_at b j; perms = perms_at b j; size = size_at b j; blocks = blocks_at b j }))
+    (Some (record {
+      name = name_at b j;
+      owner = owner_at b j;
+      perms =
+          perms_at b j;
+      size = size_in_image b j;
+      blocks = blocks_in_image b j;
+    }))
     None
 
 -- the volume that an image says; the bytes of its metadata are left out as zeros
@@ -26,7 +36,7 @@ volume_of b =
     let metadata = BLOCK_SIZE * data_start (inode_count b) in
     record {
       total = block_count b;
-      inodes = map (inode_at b) (range_with_len 0 (inode_count b));
+      inodes = map (inode_in_image b) (range_with_len 0 (inode_count b));
       bytes = replicate metadata 0 ++ drop metadata b;
     }
 
@@ -37,7 +47,8 @@ AcceptedVolume v = (b : List ℕ) × AreBytes b × Accepted b × (v ≡ volume_o
 -- the first block: the magic bytes, the version, the numbers of blocks and records, and zeros
 unfoldable pub header_bytes : ℕ → ℕ → List ℕ
 header_bytes total inodes =
-    codes "BYPDFS01" ++ little_bytes 4 VERSION ++ little_bytes 4 total ++ little_bytes 4 inodes ++ replicate (BLOCK_SIZE - HEADER_BYTES) 0
+    codes "BYPDFS01" ++ little_bytes 4 VERSION ++ little_bytes 4 total
+    ++ little_bytes 4 inodes ++ replicate (BLOCK_SIZE - HEADER_BYTES) 0
 
 -- whether a file owns the block
 abbrev pub owns_block : ℕ → Option Inode → Bool
@@ -45,12 +56,12 @@ owns_block x None = false
 owns_block x (Some file) = list_any (nat_eq x) file.blocks
 
 -- whether the block is one of the metadata or some file owns it
-abbrev pub is_taken : List (Option Inode) → ℕ → Bool
-is_taken inodes x = nat_lt x (data_start (length inodes)) || list_any (owns_block x) inodes
+abbrev pub is_in_use : List (Option Inode) → ℕ → Bool
+is_in_use inodes x = nat_lt x (data_start (length inodes)) || list_any (owns_block x) inodes
 
 -- the byte of the bitmap for the eight blocks from x on
 unfoldable pub bitmap_byte : List (Option Inode) → ℕ → ℕ
-bitmap_byte inodes x = sum_by (λ k. cond (is_taken inodes (x + k)) (2 ^ k) 0) (range_with_len 0 8)
+bitmap_byte inodes x = sum_by (λ k. cond (is_in_use inodes (x + k)) (2 ^ k) 0) (range_with_len 0 8)
 
 -- the first n bytes of the bitmap
 unfoldable pub bitmap_front : ℕ → List (Option Inode) → List ℕ

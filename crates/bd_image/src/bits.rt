@@ -17,10 +17,11 @@ fn mark(bits: &mut [u8], x: u64)
 }
 
 /// Sets the bits of blocks in a row.
-pub(crate) fn mark_run(bits: &mut [u8], start: u64, count: u64)
+pub(crate) fn mark_range(bits: &mut [u8], start: u64, count: u64)
     requires small { start + count < 2 ^ 64 }
     requires within { start + count ≤ 8 * length bits.old }
-    ensures marks { (y : ℕ) → is_set bits.new y ≡ (is_set bits.old y || list_any (nat_eq y) (range_with_len start count)) }
+    ensures marks { (y : ℕ) →
+        is_set bits.new y ≡ (is_set bits.old y || list_any (nat_eq y) (range_with_len start count)) }
     ensures bytes { AreBytes bits.old → AreBytes bits.new }
 {
     for x in start..start + count {
@@ -31,7 +32,8 @@ pub(crate) fn mark_run(bits: &mut [u8], start: u64, count: u64)
 /// Sets the bits of blocks.
 pub(crate) fn mark_blocks(bits: &mut [u8], blocks: &[BlockNo])
     requires { BLOCKS ≤ 8 * length bits.old }
-    ensures marks { (y : ℕ) → is_set bits.new y ≡ (is_set bits.old y || list_any (nat_eq y) blocks.now) }
+    ensures marks { (y : ℕ) →
+        is_set bits.new y ≡ (is_set bits.old y || list_any (nat_eq y) blocks.now) }
     ensures bytes { AreBytes bits.old → AreBytes bits.new }
 {
     for block in blocks {

@@ -43,7 +43,7 @@ pub const EXTENTS_FIELD: u64 = 48;
 pub const EXTENT_BYTES: u64 = 8;
 
 /// How many records an image has at least, and it has a multiple of this.
-pub const LEAST_INODES: u64 = 16;
+pub const LEAST_INODES: u64 = bd_base::BLOCK_RECORDS;
 
 /// How many bytes an image has at least.
-pub const LEAST_LENGTH: u64 = 81_920;
+pub const LEAST_LENGTH: u64 = bd_base::LEAST_BLOCKS * bd_base::BLOCK_SIZE;

@@ -3,9 +3,9 @@ ghost use Rattle.std.specs.Prelude.{◌≡◌, ℕ, ◌≤◌, ◌++◌, drop, l
 ghost use Rattle.std.specs.List.{range_with_len};
 ghost use Rattle.bd_base.specs.Bytes.{AreBytes};
 ghost use Rattle.bd_image.specs.Layout.{inode_count};
-ghost use Rattle.bd_image.specs.Refusals.{IsRefusal};
+ghost use Rattle.bd_image.specs.Refusals.{RefusesBytesOfImage};
 ghost use Rattle.bd_image.specs.Rules.{Accepted};
-ghost use Rattle.bd_image.specs.Volumes.{AcceptedVolume, inode_at, volume_of};
+ghost use Rattle.bd_image.specs.Volumes.{AcceptedVolume, inode_in_image, volume_of};
 
 mod bitmap;
 mod clearing;
@@ -33,15 +33,16 @@ use std::alloc::Global;
 fn read_checked(alloc: Global, bytes: &[u8]) -> Result<InodeList, ImageError>
     ensures accepted { OnOk result (Accepted bytes.now) }
     ensures bytes { OnOk result (AreBytes bytes.now) }
-    ensures files { IfOk result (λ files. files ≡ map (inode_at bytes.now) (range_with_len 0 (inode_count bytes.now))) }
-    ensures refused { IfErr result (IsRefusal bytes.now) }
+    ensures files { IfOk result (λ files.
+        files ≡ map (inode_in_image bytes.now) (range_with_len 0 (inode_count bytes.now))) }
+    ensures refused { IfErr result (RefusesBytesOfImage bytes.now) }
 {
     check_rules(alloc, bytes)?;
     let files = read_files(alloc, bytes)?;
     Ok(files)
 }
 
-/// The volume that an image says. No byte of a data block is copied.
+/// The volume that an image says.
 ///
 /// A refused image comes back as [`ImageError::BadImage`] with the least number of a rule that it
 /// breaks, and the least byte where it breaks that rule.
@@ -50,7 +51,7 @@ pub fn parse(alloc: Global, bytes: Bytes) -> Result<Volume, ImageError>
     ensures accepted { OnOk result (Accepted bytes) }
     ensures volume { IfOk result (λ volume. volume ≡ volume_of bytes) }
     ensures accepted_volume { IfOk result (λ volume. AcceptedVolume volume) }
-    ensures refused { IfErr result (IsRefusal bytes) }
+    ensures refused { IfErr result (RefusesBytesOfImage bytes) }
 {
     let inodes = read_checked(alloc, bytes.as_slice())?;
     let total = block_count(bytes.as_slice());

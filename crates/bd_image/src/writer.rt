@@ -33,14 +33,14 @@ fn image_of(alloc: Global, volume: &Volume) -> Result<Bytes, OutOfMemory>
 /// The image of a volume: its header, its bitmap, its records and its data, byte for byte.
 ///
 /// The volume is one that some accepted image says; this gives that image back.
-/// Memory for the image is taken once, and each byte of the data is copied once.
 /// The error comes only where no memory is found.
 pub fn render(alloc: Global, volume: &Volume) -> Result<Bytes, OutOfMemory>
     requires { AcceptedVolume volume.now }
     ensures image { IfOk result (λ image. image ≡ image_of volume.now) }
     ensures accepted { IfOk result (λ image. Accepted image) }
     ensures says { IfOk result (λ image. volume_of image ≡ volume.now) }
-    ensures round_trip { (b : List ℕ) → AreBytes b → Accepted b → volume.now ≡ volume_of b → IfOk result (λ image. image ≡ b) }
+    ensures round_trip { (b : List ℕ) → AreBytes b → Accepted b → volume.now ≡ volume_of b →
+        IfOk result (λ image. image ≡ b) }
 {
     image_of(alloc, volume)
 }

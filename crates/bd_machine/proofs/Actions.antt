@@ -14,7 +14,7 @@ use Rattle.bd_base.specs.declared.script.How.TheVariants as hows
 use Rattle.bd_base.specs.declared.script.Mode.TheVariants.{R}
 use Rattle.bd_base.specs.declared.volume.Volume.{Volume}
 use Rattle.bd_base.specs.Volumes.{IsInode}
-use Rattle.bd_entry.specs.Calls.{is_mapped}
+use Rattle.bd_entry.specs.Calls.{is_end_of}
 use Rattle.bd_entry.specs.Store.{distinct_pairs, has_fragment, has_plain}
 use Rattle.bd_entry.proofs.Parts.{distinct_fewer, lowest, none_lowest, one_piece, part_inside, with_next_part}
 use Rattle.bd_machine.specs.declared.run.Run.{Run}
@@ -75,17 +75,26 @@ module _ {v : Volume} {w : Wish} (g : Grants v w) where
   action-Over = refl
 
   -- no entry that attaches a right ends an open
-  pub none_mapped : (parts : List ℕ) → list_any is_mapped (map attached_entry parts) ≡ false
+  pub none_mapped : (parts : List ℕ) → list_any (is_end_of (Enter w.name R hows.Direct)) (map attached_entry parts) ≡ false
   none_mapped [] = refl
   none_mapped (part ∷ parts) = none_mapped parts
 
-  pub not_ended : (k : ℕ) → list_any is_mapped (map attached_entry (range_with_len 0 k) ++ attached_entry k ∷ []) ≡ false
-  not_ended k = rw (list_any-append is_mapped (map attached_entry (range_with_len 0 k)) (attached_entry k ∷ []), none_mapped (range_with_len 0 k)) refl
+  pub not_ended : (k : ℕ) → list_any (is_end_of (Enter w.name R hows.Direct)) (map attached_entry (range_with_len 0 k) ++ attached_entry k ∷ []) ≡ false
+  not_ended k = rw (
+    list_any-append (is_end_of (Enter w.name R hows.Direct)) (map attached_entry (range_with_len 0 k)) (attached_entry k ∷ []),
+    none_mapped
+        (range_with_len 0 k),
+  ) refl
 
-  pub is_ended : (k : ℕ) → list_any is_mapped (map attached_entry (range_with_len 0 k) ++ mapped_entry g ∷ []) ≡ true
-  is_ended k = rw (list_any-append is_mapped (map attached_entry (range_with_len 0 k)) (mapped_entry g ∷ []), none_mapped (range_with_len 0 k)) refl
+  pub is_ended : (k : ℕ) → list_any (is_end_of (Enter w.name R hows.Direct)) (map attached_entry (range_with_len 0 k) ++ mapped_entry g ∷ []) ≡ true
+  is_ended k = rw (
+    list_any-append (is_end_of (Enter w.name R hows.Direct)) (map attached_entry (range_with_len 0 k)) (mapped_entry g ∷ []),
+    none_mapped
+        (range_with_len 0 k),
+  ) refl
 
-  pub after-Before : state_after (at_phase Before) 0 (record { row = rows.Opened; call = Enter w.name R hows.Direct; entry = opened_entry g }) ≡ at_phase (Attaching 0)
+  pub after-Before : state_after (at_phase Before) 0 (record { row = rows.Opened; call = Enter w.name R hows.Direct; entry = opened_entry g })
+      ≡ at_phase (Attaching 0)
   after-Before = rw g.there refl
 
   pub after-attach : (k : ℕ) →

@@ -1,13 +1,12 @@
 -- What a text, a script and a first store determine.
-use Rattle.std.proofs.Common.{◌≡◌, ◌<◌, ◌^◌, ℕ, ap, sym, ◌∙◌, arith, ⊎_elim}
+use Rattle.std.proofs.Common.{◌≡◌, ◌<◌, ℕ, ap, sym, ◌∙◌, arith, ⊎_elim}
 use Rattle.std.proofs.lemmas.Bool.{both_ways, cases_order}
 use Rattle.bd_base.specs.declared.script.Script.{Script}
 use Rattle.bd_entry.specs.Store.{Store}
 use Rattle.bd_machine.specs.Course.{EndsAt, events_to, state_at}
 use Rattle.bd_machine.specs.Laws.{HasOneCourse, IsOfOneScript}
 use Rattle.bd_machine.specs.Machine.{all_ended}
-use Rattle.bd_machine.specs.Simple.{simple_script}
-use Rattle.bd_machine.proofs.Wishes.{unique_wish}
+use Rattle.bd_script.proofs.LawsOfTexts.{one-script}
 
 -- a run does not end twice
 not_later : (start : Store) (script : Script) (k n : ℕ) → EndsAt start script k → EndsAt start script n → k < n → ⊥
@@ -28,7 +27,4 @@ one_course start script trace other m n c d =
     )
 
 pub one_script : IsOfOneScript
-one_script v text s t a b =
-    let short_a : a.0.len < 2 ^ 64 = omega (arith, a.5.one_block) in
-    let short_b : b.0.len < 2 ^ 64 = omega (arith, b.5.one_block) in
-    a.4 ∙ ap simple_script (unique_wish a.0 b.0 a.1 a.2 short_a b.1 b.2 short_b (sym a.3 ∙ b.3)) ∙ sym b.4
+one_script v text s t a b = one-script s t a.is_script b.is_script (sym a.text_is ∙ b.text_is)

@@ -23,7 +23,7 @@ use Rattle.bd_entry.specs.declared.entry.Entry.{Entry}
 use Rattle.bd_entry.specs.declared.entry.Entry.TheVariants.{Attached, Mapped, Opened}
 use Rattle.bd_entry.specs.Calls.{calls_of}
 use Rattle.bd_entry.specs.Store.{start_store}
-use Rattle.bd_machine.specs.Running.{FollowsTrace, IsAt, IsReached, Phase, Before, Attaching, Reading, Over, Turned, attached_entry, journal_at, mapped_entry, opened_entry, part_total, state_of}
+use Rattle.bd_machine.specs.Running.{FollowsTrace, IsAtPhase, IsReached, Phase, Before, Attaching, Reading, Over, Turned, attached_entry, journal_at, mapped_entry, opened_entry, part_total, state_of}
 use Rattle.bd_machine.specs.Simple.{Grants, Wish, simple_script}
 use Rattle.bd_machine.proofs.Actions.{action-Before, action-attach, action-mapped, after-Before, after-attach, after-mapped}
 use Rattle.bd_machine.proofs.Turning.{turned}
@@ -51,7 +51,7 @@ pub at_script : (v : Volume) (script : Script) (run next : Run) (turn : ℕ) (an
 at_script v script run next turn answer reached t = subst (λ (s : Script). Turned v s run next turn answer) (sym reached.script_is) t
 
 first-turn : (v : Volume) (w : Wish) (g : Grants v w) (phase : Phase) (run : Run) (turn : ℕ) →
-    IsVolume v → IsAt g phase run → FollowsTrace (start_store v (simple_script w)) (state_of v (simple_script w) run) run.trace →
+    IsVolume v → IsAtPhase g phase run → FollowsTrace (start_store v (simple_script w)) (state_of v (simple_script w) run) run.trace →
     run.opened ≡ None → Turned v (simple_script w) run (opened_run run turn g.file R hows.Direct g.inode.size) turn (Did rows.Opened)
 first-turn v w g Before run turn sound at follows closed =
     turned v w g Before (Attaching 0) run (opened_run run turn g.file R hows.Direct g.inode.size) turn
@@ -85,7 +85,8 @@ pub is_there : (v : Volume) (script : Script) (run : Run) (name : List ℕ) (mod
     id_of name v.inodes ≡ Some file → inode_at v.inodes file ≡ None → ⊥
 is_there v script run name mode how file reached ended called named none =
     let same : reached.grants.file ≡ file = same_file v script run name mode how file reached ended called named in
-    let there : inode_at v.inodes file ≡ Some reached.grants.inode = subst (λ (n : ℕ). inode_at v.inodes n ≡ Some reached.grants.inode) same reached.grants.there in
+    let there : inode_at v.inodes file ≡ Some reached.grants.inode = subst (λ (n : ℕ). inode_at v.inodes n
+    ≡ Some reached.grants.inode) same reached.grants.there in
     let no : ⊥ = cc (there, none) in no
 
 -- an open whose file is found opens it
@@ -141,7 +142,7 @@ abbrev open_with : {v : Volume} {w : Wish} → Grants v w → ℕ → OpenFile
 open_with g k = record { file = g.file; mode = R; how = hows.Direct; attached = k; known = 0; told = g.inode.size }
 
 attach-at : (v : Volume) (w : Wish) (g : Grants v w) (k : ℕ) (run : Run) (turn : ℕ) →
-    IsVolume v → IsAt g (Attaching k) run → FollowsTrace (start_store v (simple_script w)) (state_of v (simple_script w) run) run.trace →
+    IsVolume v → IsAtPhase g (Attaching k) run → FollowsTrace (start_store v (simple_script w)) (state_of v (simple_script w) run) run.trace →
     k < part_total g → Turned v (simple_script w) run (attached_run run turn (open_with g k)) turn (Did rows.Attach)
 attach-at v w g k run turn sound at follows more =
     let grown : journal_at g (Attaching (k + 1)) ≡ journal_at g (Attaching k) ++ attached_entry k ∷ [] =
@@ -159,11 +160,11 @@ attach-at v w g k run turn sound at follows more =
     refl
 
 mapped-at : (v : Volume) (w : Wish) (g : Grants v w) (k : ℕ) (run : Run) (turn : ℕ) →
-    IsVolume v → IsAt g (Attaching k) run → FollowsTrace (start_store v (simple_script w)) (state_of v (simple_script w) run) run.trace →
+    IsVolume v → IsAtPhase g (Attaching k) run → FollowsTrace (start_store v (simple_script w)) (state_of v (simple_script w) run) run.trace →
     part_total g ≤ k → Turned v (simple_script w) run (mapped_run run turn (open_with g k) g.inode.size) turn (Did rows.Mapped)
 mapped-at v w g k run turn sound at follows all =
     let whole : part_total g ≡ k = omega (arith, at.reached) in
-    let at_whole : IsAt g (Attaching (part_total g)) run = subst (λ (n : ℕ). IsAt g (Attaching n) run) (sym whole) at in
+    let at_whole : IsAtPhase g (Attaching (part_total g)) run = subst (λ (n : ℕ). IsAtPhase g (Attaching n) run) (sym whole) at in
     subst (λ (n : ℕ). Turned v (simple_script w) run (mapped_run run turn (open_with g n) g.inode.size) turn (Did rows.Mapped)) whole
     (turned v w g (Attaching (part_total g)) Reading run (mapped_run run turn (open_with g (part_total g)) g.inode.size) turn
     (record { row = rows.Mapped; call = Enter w.name R hows.Direct; entry = mapped_entry g })
@@ -178,15 +179,17 @@ mapped-at v w g k run turn sound at follows all =
     refl)
 
 -- with a file open and its call not ended, an open attaches parts
-pub attaching : {v : Volume} {w : Wish} (g : Grants v w) (phase : Phase) (run : Run) (o : OpenFile) → IsAt g phase run → run.opened ≡ Some o → run.ended ≡ 0 →
-    (k : ℕ) × IsAt g (Attaching k) run × (open_with g k ≡ o)
+pub attaching : {v : Volume} {w : Wish} (g : Grants v w) (phase : Phase) (run : Run) (o : OpenFile) → IsAtPhase g phase run → run.opened ≡ Some o →
+    run.ended ≡ 0 →
+    (k : ℕ) × IsAtPhase g (Attaching k) run × (open_with g k ≡ o)
 attaching g Before run o at opened ended = absurd (let no : ⊥ = cc (at.open_is, opened) in no)
 attaching g (Attaching k) run o at opened ended = (k, at, same_Some _ _ (sym at.open_is ∙ opened))
 attaching g Reading run o at opened ended = absurd (omega (arith, at.ended_is, ended))
 attaching g Over run o at opened ended = absurd (omega (arith, at.ended_is, ended))
 
 -- the file of an open one is the one that the script names
-pub same_inode : {v : Volume} {w : Wish} (g : Grants v w) (k : ℕ) (o : OpenFile) (f : Inode) → open_with g k ≡ o → inode_at v.inodes o.file ≡ Some f → g.inode ≡ f
+pub same_inode : {v : Volume} {w : Wish} (g : Grants v w) (k : ℕ) (o : OpenFile) (f : Inode) → open_with g k ≡ o → inode_at v.inodes o.file ≡ Some f →
+    g.inode ≡ f
 same_inode {v} g k o f same there = same_Some _ _ (sym g.there ∙ ap (λ (p : OpenFile). inode_at v.inodes p.file) same ∙ there)
 
 -- an open with parts left attaches the next

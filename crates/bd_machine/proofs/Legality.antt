@@ -1,7 +1,8 @@
 -- Each entry of a simple script is legal at its place.
-use Rattle.std.proofs.Common.{◌≡◌, ℕ, ◌+◌, ◌<◌, ◌≤◌, true, List, [], ◌∷◌, ◌++◌, map, length, zero, suc, refl, sym, ap, subst, arith}
+use Rattle.std.proofs.Common.{◌≡◌, ℕ, ◌+◌, ◌*◌, ◌<◌, ◌≤◌, true, false, List, [], ◌∷◌, ◌++◌, map, length, zero, suc, refl, sym, ap, subst, arith}
 use Rattle.std.specs.List.{range_with_len}
-use Rattle.std.proofs.lemmas.Bool.{lt-ltb}
+use Rattle.std.specs.Prelude.{nat_lt}
+use Rattle.std.proofs.lemmas.Bool.{le-ltb, lt-ltb}
 use Rattle.std.proofs.lemmas.List.FromFn.{length-range_with_len, map-range_with_len_more}
 use Rattle.std.proofs.lemmas.Option.{slice_get-get_or}
 use Rattle.bd_base.specs.declared.script.Call.{Call}
@@ -12,10 +13,12 @@ use Rattle.bd_base.specs.declared.volume.Volume.{Volume}
 use Rattle.bd_base.specs.Files.{limit_of}
 use Rattle.bd_base.specs.Volumes.{IsInode}
 use Rattle.bd_entry.specs.declared.entry.Entry.{Entry}
-use Rattle.bd_entry.specs.Calls.{calls_of, entries_of, is_finished}
+use Rattle.bd_base.specs.declared.limits.TheConstants.{BLOCK_SIZE}
+use Rattle.bd_base.specs.Pieces.{Piece}
+use Rattle.bd_entry.specs.Calls.{Place, calls_of, entries_of, is_finished}
 use Rattle.bd_entry.specs.History.{InOrder, InOrderSoFar, Legal, Step}
-use Rattle.bd_entry.specs.Rules.{EntryRule, NextCall, FitsCall, Once, RightWay, IsOpen, RightFile, Allowed, Rights, NoPlain, RightBlock, WithinLimit, RightBytes, NotRefused, FitsScript, FitsStore}
-use Rattle.bd_entry.specs.Store.{start_store}
+use Rattle.bd_entry.specs.Rules.{EntryRule, NextCall, FitsCall, Once, RightWay, IsOpen, RightFile, Allowed, Rights, NoPlain, RightBlock, WithinLimit, RightBytes, NotRefused, FitsScript, FitsStore, place_in}
+use Rattle.bd_entry.specs.Store.{Descriptor, start_store}
 use Rattle.bd_entry.proofs.Histories.{InOrderFrom-push, Legal-push}
 use Rattle.bd_entry.proofs.Parts.{lowest, none_lowest, one_piece, part_inside}
 use Rattle.bd_machine.specs.Machine.{State}
@@ -30,28 +33,46 @@ module _ {v : Volume} {w : Wish} (g : Grants v w) where
   abbrev read : Call
   read = Read 0 0 w.len
 
-  opened-store : (rule : EntryRule) → FitsStore (at_phase g Before).store enter (opened_entry g) rule
+  -- the place of the next entry at a phase
+  abbrev place_at : Phase → Call → ℕ → Place
+  place_at phase call number = place_in (at_phase g phase).store call (call_number number)
+
+  -- the descriptor at a phase
+  abbrev open_with : ℕ → ℕ → Descriptor
+  open_with attached known =
+      record {
+        file = g.file;
+        mode = R;
+        how = hows.Direct;
+        attached = range_with_len 0 attached;
+        cleared = [];
+        known = known;
+        told = g.inode.size;
+      }
+
+  opened-store : (rule : EntryRule) → FitsStore (at_phase g Before).store (place_at Before enter 0) (opened_entry g) rule
   opened-store RightWay = tt
   opened-store IsOpen = refl
   opened-store RightFile = g.named
-  opened-store Allowed = rw g.there g.allowed
+  opened-store Allowed = rw (g.there, g.allowed) refl
   opened-store Rights = tt
   opened-store NoPlain = tt
   opened-store RightBlock = tt
   opened-store WithinLimit = tt
   opened-store RightBytes = tt
-  opened-store NotRefused = λ _. (g.file, g.inode, g.named, g.there, g.allowed, refl)
+  opened-store NotRefused = λ _. rw (g.named, g.there, g.allowed) refl
   opened-store NextCall = tt
   opened-store FitsCall = tt
   opened-store Once = tt
 
-  attached-store : (k : ℕ) → k < part_total g → part_total g ≤ 8 → (rule : EntryRule) → FitsStore (at_phase g (Attaching k)).store enter (attached_entry k) rule
+  attached-store : (k : ℕ) → k < part_total g → part_total g ≤ 8 → (rule : EntryRule) →
+      FitsStore (at_phase g (Attaching k)).store (place_at (Attaching k) enter 0) (attached_entry k) rule
   attached-store k lt few RightWay = tt
   attached-store k lt few IsOpen = refl
   attached-store k lt few RightFile = tt
   attached-store k lt few Allowed = tt
-  attached-store k lt few Rights = (rw g.there (lowest k (part_total g) lt), room g k k (omega arith))
-  attached-store k lt few NoPlain = no_plain g (Attaching k) g.file
+  attached-store k lt few Rights = (open_with k 0, refl, (rw g.there (lowest k (part_total g) lt), room g k k (omega arith)))
+  attached-store k lt few NoPlain = (open_with k 0, refl, no_plain g (Attaching k) g.file)
   attached-store k lt few RightBlock = tt
   attached-store k lt few WithinLimit = tt
   attached-store k lt few RightBytes = tt
@@ -60,12 +81,17 @@ module _ {v : Volume} {w : Wish} (g : Grants v w) where
   attached-store k lt few FitsCall = tt
   attached-store k lt few Once = tt
 
-  mapped-store : (rule : EntryRule) → FitsStore (at_phase g (Attaching (part_total g))).store enter (mapped_entry g) rule
+  mapped-store : (rule : EntryRule) → FitsStore (at_phase g (Attaching (part_total g))).store (place_at (Attaching (part_total g)) enter 0)
+      (mapped_entry g) rule
   mapped-store RightWay = tt
   mapped-store IsOpen = refl
   mapped-store RightFile = tt
   mapped-store Allowed = tt
-  mapped-store Rights = (sym (length-range_with_len 0 (part_total g)), rw g.there (rw (none_lowest (part_total g)) refl))
+  mapped-store Rights = (
+    open_with (part_total g) 0,
+    refl,
+    (sym (length-range_with_len 0 (part_total g)), rw g.there (rw (none_lowest (part_total g)) refl)),
+  )
   mapped-store NoPlain = tt
   mapped-store RightBlock = tt
   mapped-store WithinLimit = tt
@@ -79,12 +105,23 @@ module _ {v : Volume} {w : Wish} (g : Grants v w) where
   within_first : IsInode v.total g.inode → w.len ≤ limit_of g.inode.size g.inode.blocks 0
   within_first sound = rw (lt-ltb 0 (length g.inode.blocks) (has_block g sound)) (omega (arith, g.within, g.one_block))
 
-  access-store : IsInode v.total g.inode → (rule : EntryRule) → FitsStore (at_phase g Reading).store read (access_entry g) rule
-  access-store sound RightWay = (refl, omega (arith, g.within))
+  -- the piece that is read, which ends within the known size
+  abbrev the_piece : Piece
+  the_piece = record { index = 0; range = record { lo = 0; hi = w.len } }
+
+  known_piece : nat_lt g.inode.size (BLOCK_SIZE * 0 + w.len) ≡ false
+  known_piece = le-ltb _ _ (omega (arith, g.within))
+
+  access-store : IsInode v.total g.inode → (rule : EntryRule) → FitsStore (at_phase g Reading).store (place_at Reading read 1) (access_entry g) rule
+  access-store sound RightWay = (the_piece, rw (one_piece w.len g.some g.one_block) refl, rw known_piece tt)
   access-store sound IsOpen = refl
-  access-store sound RightFile = refl
-  access-store sound Allowed = tt
-  access-store sound Rights = part_inside 0 0 (part_total g) (omega arith) (let block : 0 < length g.inode.blocks = has_block g sound in omega arith)
+  access-store sound RightFile = (open_with (part_total g) g.inode.size, refl, refl)
+  access-store sound Allowed = (open_with (part_total g) g.inode.size, refl, tt)
+  access-store sound Rights = (
+    open_with (part_total g) g.inode.size,
+    refl,
+    part_inside 0 0 (part_total g) (omega arith) (let block : 0 < length g.inode.blocks = has_block g sound in omega arith),
+  )
   access-store sound NoPlain = tt
   access-store sound RightBlock = rw g.there (slice_get-get_or g.inode.blocks 0 0 (has_block g sound))
   access-store sound WithinLimit = rw g.there (within_first sound)
@@ -104,13 +141,14 @@ module _ {v : Volume} {w : Wish} (g : Grants v w) where
   not_of_read [] = refl
   not_of_read (part ∷ parts) = not_of_read parts
 
-  of_open_whole : (parts : List ℕ) → entries_of (call_number 0) (map attached_entry parts ++ mapped_entry g ∷ []) ≡ map attached_entry parts ++ mapped_entry g ∷ []
+  of_open_whole : (parts : List ℕ) → entries_of (call_number 0) (map attached_entry parts ++ mapped_entry g ∷ [])
+      ≡ map attached_entry parts ++ mapped_entry g ∷ []
   of_open_whole [] = refl
   of_open_whole (part ∷ parts) = ap (λ (entries : List Entry). attached_entry part ∷ entries) (of_open_whole parts)
 
   opened-script : (rule : EntryRule) → FitsScript (simple_script w) [] (opened_entry g) rule
   opened-script NextCall = record { in_script = omega arith; unfinished = refl; earlier = λ call lt. absurd (omega arith) }
-  opened-script FitsCall = (refl, refl, refl)
+  opened-script FitsCall = record { kind = refl; fields = (refl, refl) }
   opened-script Once = refl
   opened-script RightWay = tt
   opened-script IsOpen = tt
@@ -124,8 +162,13 @@ module _ {v : Volume} {w : Wish} (g : Grants v w) where
   opened-script NotRefused = tt
 
   attached-script : (k : ℕ) → (rule : EntryRule) → FitsScript (simple_script w) (journal_at g (Attaching k)) (attached_entry k) rule
-  attached-script k NextCall = record { in_script = omega arith; unfinished = rw (of_open (range_with_len 0 k)) (none_mapped g (range_with_len 0 k)); earlier = λ call lt. absurd (omega arith) }
-  attached-script k FitsCall = refl
+  attached-script k NextCall = record {
+    in_script = omega arith;
+    unfinished =
+        rw (of_open (range_with_len 0 k)) (none_mapped g (range_with_len 0 k));
+    earlier = λ call lt. absurd (omega arith);
+  }
+  attached-script k FitsCall = record { kind = refl; fields = refl }
   attached-script k Once = tt
   attached-script k RightWay = tt
   attached-script k IsOpen = tt
@@ -139,8 +182,13 @@ module _ {v : Volume} {w : Wish} (g : Grants v w) where
   attached-script k NotRefused = tt
 
   mapped-script : (rule : EntryRule) → FitsScript (simple_script w) (journal_at g (Attaching (part_total g))) (mapped_entry g) rule
-  mapped-script NextCall = record { in_script = omega arith; unfinished = rw (of_open (range_with_len 0 (part_total g))) (none_mapped g (range_with_len 0 (part_total g))); earlier = λ call lt. absurd (omega arith) }
-  mapped-script FitsCall = refl
+  mapped-script NextCall = record {
+    in_script = omega arith;
+    unfinished =
+        rw (of_open (range_with_len 0 (part_total g))) (none_mapped g (range_with_len 0 (part_total g)));
+    earlier = λ call lt. absurd (omega arith);
+  }
+  mapped-script FitsCall = record { kind = refl; fields = refl }
   mapped-script Once = tt
   mapped-script RightWay = tt
   mapped-script IsOpen = tt
@@ -166,7 +214,10 @@ module _ {v : Volume} {w : Wish} (g : Grants v w) where
     unfinished = rw (not_of_read (range_with_len 0 (part_total g)), one_piece w.len g.some g.one_block) refl;
     earlier = open_finished;
   }
-  access-script FitsCall = (refl, rw (one_piece w.len g.some g.one_block) refl, refl, refl)
+  access-script FitsCall = record {
+    kind = refl;
+    fields = (refl, record { piece = rw (one_piece w.len g.some g.one_block) refl; direction = refl });
+  }
   access-script Once = rw (not_of_read (range_with_len 0 (part_total g))) refl
   access-script RightWay = tt
   access-script IsOpen = tt
@@ -188,13 +239,16 @@ module _ {v : Volume} {w : Wish} (g : Grants v w) where
       Legal-push (simple_script w) (start_store v (simple_script w)) [] (at_phase g Before).store enter (opened_entry g) (at_phase g (Attaching 0)).store
       refl refl (record { keeps = opened-store; after = ap (λ (m : State). m.store) (sym (after-Before g)) })
   legal-attaching few (suc k) le =
-      let grown : map attached_entry (range_with_len 0 (k + 1)) ≡ map attached_entry (range_with_len 0 k) ++ attached_entry k ∷ [] = map-range_with_len_more attached_entry 0 k k (omega arith) in
-      let step : Step (at_phase g (Attaching k)).store enter (attached_entry k) (at_phase g (Attaching (k + 1))).store =
+      let grown : map attached_entry (range_with_len 0 (k + 1))
+      ≡ map attached_entry (range_with_len 0 k) ++ attached_entry k ∷ [] = map-range_with_len_more attached_entry 0 k k (omega arith) in
+      let step : Step (at_phase g (Attaching k)).store (place_at (Attaching k) enter 0) (attached_entry k) (at_phase g (Attaching (k + 1))).store =
       record { keeps = attached-store k (omega arith) few; after = ap (λ (m : State). m.store) (sym (after-attach g k)) } in
-      let legal = Legal-push (simple_script w) (start_store v (simple_script w)) (journal_at g (Attaching k)) (at_phase g (Attaching k)).store enter (attached_entry k) (at_phase g (Attaching (k + 1))).store
+      let legal = Legal-push (simple_script w) (start_store v (simple_script w)) (journal_at g (Attaching k)) (at_phase g (Attaching k)).store enter
+      (attached_entry k) (at_phase g (Attaching (k + 1))).store
       (legal-attaching few k (omega arith)) refl step in
       let same : k + 1 ≡ suc k = omega arith in
-      subst LegalPhase same (subst (λ (entries : List Entry). Legal (simple_script w) (start_store v (simple_script w)) (opened_entry g ∷ entries) (at_phase g (Attaching (k + 1))).store) (sym grown) legal)
+      subst LegalPhase same (subst (λ (entries : List Entry). Legal (simple_script w) (start_store v (simple_script w)) (opened_entry g ∷ entries)
+      (at_phase g (Attaching (k + 1))).store) (sym grown) legal)
     where
       LegalPhase : ℕ → Type 0
       LegalPhase n = LegalAt (Attaching n)
@@ -222,7 +276,8 @@ module _ {v : Volume} {w : Wish} (g : Grants v w) where
   in_order-attaching : (k : ℕ) → InOrderSoFar (simple_script w) (journal_at g (Attaching k))
   in_order-attaching zero = InOrderFrom-push (simple_script w) [] [] (opened_entry g) tt opened-script
   in_order-attaching (suc k) =
-      let grown : map attached_entry (range_with_len 0 (k + 1)) ≡ map attached_entry (range_with_len 0 k) ++ attached_entry k ∷ [] = map-range_with_len_more attached_entry 0 k k (omega arith) in
+      let grown : map attached_entry (range_with_len 0 (k + 1))
+      ≡ map attached_entry (range_with_len 0 k) ++ attached_entry k ∷ [] = map-range_with_len_more attached_entry 0 k k (omega arith) in
       let order = InOrderFrom-push (simple_script w) [] (journal_at g (Attaching k)) (attached_entry k) (in_order-attaching k) (attached-script k) in
       let same : k + 1 ≡ suc k = omega arith in
       subst (λ (n : ℕ). InOrderSoFar (simple_script w) (journal_at g (Attaching n))) same
@@ -240,7 +295,8 @@ module _ {v : Volume} {w : Wish} (g : Grants v w) where
   in_order_at Over = InOrderFrom-push (simple_script w) [] (journal_at g Reading) (access_entry g) in_order-Reading access-script
 
   -- the entries of the open and of the read at the end
-  of_open_over : (parts : List ℕ) → entries_of (call_number 0) ((map attached_entry parts ++ mapped_entry g ∷ []) ++ access_entry g ∷ []) ≡ map attached_entry parts ++ mapped_entry g ∷ []
+  of_open_over : (parts : List ℕ) → entries_of (call_number 0) ((map attached_entry parts ++ mapped_entry g ∷ []) ++ access_entry g ∷ [])
+      ≡ map attached_entry parts ++ mapped_entry g ∷ []
   of_open_over [] = refl
   of_open_over (part ∷ parts) = ap (λ (entries : List Entry). attached_entry part ∷ entries) (of_open_over parts)
 

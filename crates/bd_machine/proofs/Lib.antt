@@ -8,9 +8,6 @@ pub mod Resting
 pub mod Kept
 pub mod RoundTurns
 pub mod RunToEnd
-pub mod Numbers
-pub mod Fields
-pub mod Wishes
 pub mod JournalLaws
 pub mod Determined
 pub mod Volumes

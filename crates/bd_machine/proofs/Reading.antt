@@ -14,7 +14,7 @@ use Rattle.bd_machine.specs.declared.run.Run.{Run}
 use Rattle.bd_machine.specs.declared.turn.Row.TheVariants as rows
 use Rattle.bd_machine.specs.declared.turn.Turn.TheVariants.{Did, Idle}
 use Rattle.bd_machine.specs.Machine.{State, next_action}
-use Rattle.bd_machine.specs.Running.{IsAt, IsReached, Phase, Before, Attaching, Reading, Over, Turned, access_entry, moved_of, state_of}
+use Rattle.bd_machine.specs.Running.{IsAtPhase, IsReached, Phase, Before, Attaching, Reading, Over, Turned, access_entry, moved_of, state_of}
 use Rattle.bd_machine.specs.Simple.{Grants, Wish, simple_script}
 use Rattle.bd_machine.proofs.Actions.{action-move, after-move}
 use Rattle.bd_machine.proofs.Entering.{at_script, follows_simple, sound_file}
@@ -26,19 +26,23 @@ moved_run run turn moved =
     record run {
       ended = run.ended + 1;
       used = 0;
-      journal = run.journal ++ Access (record { process = 0; call = run.ended }) 0 0 moved.file 0 (Some moved.block) moved.range false ways.Direct moved.bytes ∷ [];
+      journal = run.journal ++ Access (record {
+        process = 0;
+        call =
+            run.ended;
+      }) 0 0 moved.file 0 (Some moved.block) moved.range false ways.Direct moved.bytes ∷ [];
       trace = run.trace ++ record { turn = turn; actor = 0; row = rows.Move } ∷ [];
     }
 
 -- after the open and before the read
-pub reading : {v : Volume} {w : Wish} (g : Grants v w) (phase : Phase) (run : Run) → IsAt g phase run → run.ended ≡ 1 → IsAt g Reading run
+pub reading : {v : Volume} {w : Wish} (g : Grants v w) (phase : Phase) (run : Run) → IsAtPhase g phase run → run.ended ≡ 1 → IsAtPhase g Reading run
 reading g Before run at ended = absurd (omega (arith, at.ended_is, ended))
 reading g (Attaching k) run at ended = absurd (omega (arith, at.ended_is, ended))
 reading g Reading run at ended = at
 reading g Over run at ended = absurd (omega (arith, at.ended_is, ended))
 
 -- after the read
-pub over : {v : Volume} {w : Wish} (g : Grants v w) (phase : Phase) (run : Run) → IsAt g phase run → run.ended ≢ 0 → run.ended ≢ 1 → IsAt g Over run
+pub over : {v : Volume} {w : Wish} (g : Grants v w) (phase : Phase) (run : Run) → IsAtPhase g phase run → run.ended ≢ 0 → run.ended ≢ 1 → IsAtPhase g Over run
 over g Before run at not_first not_second = absurd (not_first at.ended_is)
 over g (Attaching k) run at not_first not_second = absurd (not_first at.ended_is)
 over g Reading run at not_first not_second = absurd (not_second at.ended_is)
@@ -53,7 +57,8 @@ same_len v script run fd off len reached ended called =
     let same : reached.wish.len ≡ len = cc call in same
 
 -- the file that is open is the one that the script names
-pub opened_file : (v : Volume) (script : Script) (run : Run) (o : OpenFile) (reached : IsReached v script run) → run.ended ≡ 1 → run.opened ≡ Some o → reached.grants.file ≡ o.file
+pub opened_file : (v : Volume) (script : Script) (run : Run) (o : OpenFile) (reached : IsReached v script run) → run.ended ≡ 1 → run.opened ≡ Some o →
+    reached.grants.file ≡ o.file
 opened_file v script run o reached ended opened =
     let at = reading reached.grants reached.phase run reached.at ended in
     ap (λ (p : OpenFile). p.file) (same_Some _ _ (sym at.open_is ∙ opened))
@@ -80,7 +85,8 @@ moved-turn v script run turn reached ended =
     refl)
 
 -- after the read there is nothing to do
-pub over-turn : (v : Volume) (script : Script) (run : Run) (turn : ℕ) → IsReached v script run → run.ended ≢ 0 → run.ended ≢ 1 → Turned v script run run turn Idle
+pub over-turn : (v : Volume) (script : Script) (run : Run) (turn : ℕ) → IsReached v script run → run.ended ≢ 0 → run.ended ≢ 1 →
+    Turned v script run run turn Idle
 over-turn v script run turn reached not_first not_second =
     let g = reached.grants in
     let at = over g reached.phase run reached.at not_first not_second in

@@ -18,10 +18,12 @@ use Rattle.bd_machine.proofs.Turning.{state_at}
 
 module _ {v : Volume} {w : Wish} (g : Grants v w) where
   -- the action of a phase leads to another one with less rest
-  lowers : (m next : State) (act : Action) → action_of m 0 ≡ Some act → state_after m 0 act ≡ next → rest_of next < rest_of m → LowersRest (answer_of m 0) m (after_turn m 0)
+  lowers : (m next : State) (act : Action) → action_of m 0 ≡ Some act → state_after m 0 act ≡ next → rest_of next < rest_of m →
+      LowersRest (answer_of m 0) m (after_turn m 0)
   lowers m next act acts leads less = rw acts (subst (λ (n : State). rest_of n < rest_of m) (sym leads) less)
 
-  lowers-attaching : (k : ℕ) → IsVolume v → k ≤ part_total g → LowersRest (answer_of (at_phase g (Attaching k)) 0) (at_phase g (Attaching k)) (after_turn (at_phase g (Attaching k)) 0)
+  lowers-attaching : (k : ℕ) → IsVolume v → k ≤ part_total g →
+      LowersRest (answer_of (at_phase g (Attaching k)) 0) (at_phase g (Attaching k)) (after_turn (at_phase g (Attaching k)) 0)
   lowers-attaching k sound reached =
       ⊎_elim
       (λ more. lowers (at_phase g (Attaching k)) (at_phase g (Attaching (k + 1))) _ (action-attach g k more (few_parts v w g sound)) (after-attach g k)
@@ -34,7 +36,8 @@ module _ {v : Volume} {w : Wish} (g : Grants v w) where
       (cases_lt k (part_total g))
 
   -- a turn of the process lowers the rest, but at the end
-  pub lowers_at : (phase : Phase) → IsVolume v → IsPhase g phase → LowersRest (answer_of (at_phase g phase) 0) (at_phase g phase) (after_turn (at_phase g phase) 0)
+  pub lowers_at : (phase : Phase) → IsVolume v → IsPhase g phase →
+      LowersRest (answer_of (at_phase g phase) 0) (at_phase g phase) (after_turn (at_phase g phase) 0)
   lowers_at Before sound reached = lowers (at_phase g Before) (at_phase g (Attaching 0)) _ (action-Before g) (after-Before g) (omega arith)
   lowers_at (Attaching k) sound reached = lowers-attaching k sound reached
   lowers_at Reading sound reached = lowers (at_phase g Reading) (at_phase g Over) _ (action-move g (sound_file v w g sound)) (after-move g) (omega arith)
@@ -50,7 +53,8 @@ module _ {v : Volume} {w : Wish} (g : Grants v w) where
       (λ more. let no : Did rows.Attach ≡ Idle = sym (answers (at_phase g (Attaching k)) _ (action-attach g k more (few_parts v w g sound))) ∙ idle in cc)
       (λ all.
       let whole : part_total g ≡ k = omega arith in
-      let none : answer_of (at_phase g (Attaching (part_total g))) 0 ≡ Idle = subst (λ (n : ℕ). answer_of (at_phase g (Attaching n)) 0 ≡ Idle) (sym whole) idle in
+      let none : answer_of (at_phase g (Attaching (part_total g))) 0 ≡ Idle = subst (λ (n : ℕ). answer_of (at_phase g (Attaching n)) 0
+      ≡ Idle) (sym whole) idle in
       let no : Did rows.Mapped ≡ Idle = sym (answers (at_phase g (Attaching (part_total g))) _ (action-mapped g (few_parts v w g sound))) ∙ none in cc)
       (cases_lt k (part_total g))
 
@@ -58,13 +62,16 @@ module _ {v : Volume} {w : Wish} (g : Grants v w) where
   pub acts_at : (phase : Phase) → IsVolume v → IsPhase g phase → all_ended (at_phase g phase) ≡ false → answer_of (at_phase g phase) 0 ≢ Idle
   acts_at Before sound reached unfinished idle = let no : Did rows.Opened ≡ Idle = sym (answers (at_phase g Before) _ (action-Before g)) ∙ idle in cc
   acts_at (Attaching k) sound reached unfinished idle = acts-attaching k sound reached idle
-  acts_at Reading sound reached unfinished idle = let no : Did rows.Move ≡ Idle = sym (answers (at_phase g Reading) _ (action-move g (sound_file v w g sound))) ∙ idle in cc
+  acts_at Reading sound reached unfinished idle = let no : Did rows.Move
+      ≡ Idle = sym (answers (at_phase g Reading) _ (action-move g (sound_file v w g sound))) ∙ idle in cc
   acts_at Over sound reached unfinished idle = let no : ⊥ = cc unfinished in no
 
 -- what a reached machine keeps stands for its phase's state
-pub state_reached : (v : Volume) (script : Script) (run : Run) (reached : IsReached v script run) → state_of v script run ≡ at_phase reached.grants reached.phase
+pub state_reached : (v : Volume) (script : Script) (run : Run) (reached : IsReached v script run) →
+    state_of v script run ≡ at_phase reached.grants reached.phase
 state_reached v script run reached =
-    subst (λ (s : Script). state_of v s run ≡ at_phase reached.grants reached.phase) (sym reached.script_is) (state_at reached.grants reached.phase run reached.at)
+    subst (λ (s : Script). state_of v s run ≡ at_phase reached.grants reached.phase) (sym reached.script_is)
+    (state_at reached.grants reached.phase run reached.at)
 
 -- a turn of the process
 pub turn_lowers : (v : Volume) (script : Script) (run next : Run) (turn : ℕ) (answer : Turn) → IsReached v script run → Turned v script run next turn answer →
@@ -77,9 +84,11 @@ turn_lowers v script run next turn answer reached t =
     rw (t.state, t.answers) at_was
 
 -- while a call is unfinished the process has something to do
-pub process_acts : (v : Volume) (script : Script) (run : Run) → IsReached v script run → all_ended (state_of v script run) ≡ false → SomeActorActs (state_of v script run)
+pub process_acts : (v : Volume) (script : Script) (run : Run) → IsReached v script run → all_ended (state_of v script run) ≡ false →
+    SomeActorActs (state_of v script run)
 process_acts v script run reached unfinished =
     let was = state_reached v script run reached in
     let acts : answer_of (state_of v script run) 0 ≢ Idle =
-    subst (λ (m : State). all_ended m ≡ false → answer_of m 0 ≢ Idle) (sym was) (acts_at reached.grants reached.phase reached.sound reached.at.reached) unfinished in
+    subst (λ (m : State). all_ended m ≡ false →
+    answer_of m 0 ≢ Idle) (sym was) (acts_at reached.grants reached.phase reached.sound reached.at.reached) unfinished in
     (0, omega arith, acts)

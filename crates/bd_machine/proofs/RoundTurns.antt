@@ -15,7 +15,8 @@ use Rattle.bd_machine.specs.Running.{EndsRound, IsCourseSoFar, IsRoundStart, Pro
 
 -- the events of an answer are those of its action
 events_same : (n actor : ℕ) (act : Option Action) →
-    option_map_or (λ (a : Action). record { turn = n; actor = actor; row = a.row } ∷ []) act [] ≡ event_of n actor (option_map_or (λ (a : Action). Did a.row) act Idle)
+    option_map_or (λ (a : Action). record { turn = n; actor = actor; row = a.row } ∷ []) act []
+    ≡ event_of n actor (option_map_or (λ (a : Action). Did a.row) act Idle)
 events_same n actor None = refl
 events_same n actor (Some act) = refl
 
@@ -45,7 +46,8 @@ course_step start script trace m n actor course whose unfinished =
     })
 
 -- who takes a turn, where nothing is scheduled
-pub actor_in_round : (script : Script) (rounds actor : ℕ) → scheduled script ≡ [] → actor < actor_count script → actor_at script (rounds * actor_count script + actor) ≡ actor
+pub actor_in_round : (script : Script) (rounds actor : ℕ) → scheduled script ≡ [] → actor < actor_count script →
+    actor_at script (rounds * actor_count script + actor) ≡ actor
 actor_in_round script rounds actor none lt =
     let count = actor_count script in
     let empty : length (scheduled script) ≡ 0 = ap length none in
@@ -75,7 +77,8 @@ round_begins old begins =
     record { course = begins.course; start = refl; script = refl; turns = omega arith; moved = inr (refl, λ a lt. absurd (omega arith)) }
 
 -- a machine on its course is so after the next turn by the course
-pub course_goes_on : (m : Progress) (actor : ℕ) → IsCourseSoFar m → actor_at m.state.script m.turns ≡ actor → all_ended m.state ≡ false → m.turns + 1 ≤ 2 ^ 64 - 1 → IsCourseSoFar (stepped m actor)
+pub course_goes_on : (m : Progress) (actor : ℕ) → IsCourseSoFar m → actor_at m.state.script m.turns ≡ actor → all_ended m.state ≡ false →
+    m.turns + 1 ≤ 2 ^ 64 - 1 → IsCourseSoFar (stepped m actor)
 course_goes_on m actor course whose unfinished room =
     let same : (after_turn m.state actor).script ≡ m.state.script = script_stays m.state actor in
     let more = course_step (start_store m.start m.state.script) m.state.script m.trace m.state m.turns actor course.on_course whose unfinished in
@@ -83,7 +86,8 @@ course_goes_on m actor course whose unfinished room =
     record {
       unscheduled = ap scheduled same ∙ course.unscheduled;
       on_course =
-          subst (λ (n : ℕ). IsOnCourse (start_store m.start (after_turn m.state actor).script) (after_turn m.state actor).script (stepped m actor).trace (after_turn m.state actor) n) count
+          subst (λ (n : ℕ). IsOnCourse (start_store m.start (after_turn m.state actor).script) (after_turn m.state actor).script (stepped m actor).trace
+          (after_turn m.state actor) n) count
           (subst (λ (s : Script). IsOnCourse (start_store m.start s) s (stepped m actor).trace (after_turn m.state actor) (m.turns + 1)) (sym same) more);
     }
 
@@ -106,14 +110,16 @@ moves_on old new next actor Idle is stays moved =
     ))
     moved
 
-pub round_goes_on : (old new : Progress) (actor : ℕ) (answer : Turn) → IsRoundStart old → InRound old new actor → actor < actor_count old.state.script → all_ended new.state ≡ false →
+pub round_goes_on : (old new : Progress) (actor : ℕ) (answer : Turn) → IsRoundStart old → InRound old new actor → actor < actor_count old.state.script →
+    all_ended new.state ≡ false →
     answer ≡ answer_of new.state actor → LowersRest answer new.state (stepped new actor).state → InRound old (stepped new actor) (actor + 1)
 round_goes_on old new actor answer begins round lt unfinished is lowers =
     let room : new.turns + 1 ≤ 2 ^ 64 - 1 = omega (arith, round.turns, begins.room) in
     let place : new.turns ≡ begins.rounds * actor_count old.state.script + actor = round.turns ∙ ap (λ (n : ℕ). n + actor) begins.whole in
     let unscheduled : scheduled old.state.script ≡ [] = begins.course.unscheduled in
     let whose : actor_at new.state.script new.turns ≡ actor =
-    ap (λ (s : Script). actor_at s new.turns) round.script ∙ ap (actor_at old.state.script) place ∙ actor_in_round old.state.script begins.rounds actor unscheduled lt in
+    ap (λ (s : Script). actor_at s new.turns) round.script ∙ ap (actor_at old.state.script) place
+    ∙ actor_in_round old.state.script begins.rounds actor unscheduled lt in
     record {
       course = course_goes_on new actor round.course whose unfinished room;
       start = round.start;
@@ -135,7 +141,8 @@ round_ends old new begins round =
     }
 
 -- a round that stops since all calls have ended
-pub round_stops : (old new : Progress) (actor : ℕ) → IsRoundStart old → InRound old new actor → actor ≤ actor_count old.state.script → all_ended new.state ≡ true → EndsRound old new
+pub round_stops : (old new : Progress) (actor : ℕ) → IsRoundStart old → InRound old new actor → actor ≤ actor_count old.state.script →
+    all_ended new.state ≡ true → EndsRound old new
 round_stops old new actor begins round le ended =
     record {
       course = round.course;

@@ -31,7 +31,8 @@ first_rest : (v : Volume) (script : Script) → IsSimple v script → rest_of (b
 first_rest v script simple = ap (λ (s : Script). rest_of (boot_state (start_store v s) s)) simple.1
 
 -- a machine before its first turn
-pub before_rounds : (v : Volume) (script : Script) (actors : ℕ) → IsSimple v script → actors ≡ actor_count script → IsBetweenRounds v script actors (booted v script)
+pub before_rounds : (v : Volume) (script : Script) (actors : ℕ) → IsSimple v script → actors ≡ actor_count script →
+    IsBetweenRounds v script actors (booted v script)
 before_rounds v script actors simple count =
     record {
       actors_is = count;
@@ -49,7 +50,8 @@ before_rounds v script actors simple count =
     }
 
 -- the next round can be taken where some call has not ended
-pub round_can_begin : (v : Volume) (script : Script) (actors : ℕ) (m : Progress) → IsBetweenRounds v script actors m → all_ended m.state ≡ false → SomeActorActs m.state → IsRoundStart m
+pub round_can_begin : (v : Volume) (script : Script) (actors : ℕ) (m : Progress) → IsBetweenRounds v script actors m → all_ended m.state ≡ false →
+    SomeActorActs m.state → IsRoundStart m
 round_can_begin v script actors m between unfinished acts =
     let count : actor_count m.state.script ≡ actors = ap actor_count between.script_is ∙ sym between.actors_is in
     record {
@@ -62,7 +64,8 @@ round_can_begin v script actors m between unfinished acts =
     }
 
 -- and leads to the next such moment
-pub after_round : (v : Volume) (script : Script) (actors : ℕ) (m next : Progress) → IsBetweenRounds v script actors m → all_ended m.state ≡ false → EndsRound m next → IsBetweenRounds v script actors next
+pub after_round : (v : Volume) (script : Script) (actors : ℕ) (m next : Progress) → IsBetweenRounds v script actors m → all_ended m.state ≡ false →
+    EndsRound m next → IsBetweenRounds v script actors next
 after_round v script actors m next between unfinished ends =
     let count : actor_count m.state.script ≡ actors = ap actor_count between.script_is ∙ sym between.actors_is in
     let was : m.turns ≡ between.rounds * actors = between.whole unfinished in
@@ -81,7 +84,8 @@ after_round v script actors m next between unfinished ends =
     }
 
 -- at the end the whole course was taken
-pub whole_course : (v : Volume) (script : Script) (actors : ℕ) (m : Progress) → IsBetweenRounds v script actors m → all_ended m.state ≡ true → IsCourse (start_store v script) script m.trace m.state
+pub whole_course : (v : Volume) (script : Script) (actors : ℕ) (m : Progress) → IsBetweenRounds v script actors m → all_ended m.state ≡ true →
+    IsCourse (start_store v script) script m.trace m.state
 whole_course v script actors m between ended =
     let course : IsOnCourse (start_store v script) script m.trace m.state m.turns =
     subst (λ (s : Script). IsOnCourse (start_store v s) s m.trace m.state m.turns) between.script_is

@@ -21,9 +21,16 @@ progress_of v script run turns = record { start = v; state = state_of v script r
 pub stepped-process : (v : Volume) (script : Script) (run next : Run) (turns : ℕ) (answer : Turn) → Turned v script run next turns answer →
     progress_of v script next (min (turns + 1) (2 ^ 64 - 1)) ≡ stepped (progress_of v script run turns) 0
 stepped-process v script run next turns answer t =
-    let trace : next.trace ≡ run.trace ++ event_of turns 0 (answer_of (state_of v script run) 0) = t.trace ∙ ap (λ (a : Turn). run.trace ++ event_of turns 0 a) t.answers in
+    let trace : next.trace ≡ run.trace ++ event_of turns 0 (answer_of (state_of v script run) 0) = t.trace
+    ∙ ap (λ (a : Turn). run.trace ++ event_of turns 0 a) t.answers in
     ap (λ (m : State). record { start = v; state = m; trace = next.trace; turns = min (turns + 1) (2 ^ 64 - 1) }) t.state
-    ∙ ap (λ (events : List Event). record { start = v; state = after_turn (state_of v script run) 0; trace = events; turns = min (turns + 1) (2 ^ 64 - 1) }) trace
+    ∙ ap (λ (events : List Event). record {
+      start = v;
+      state = after_turn (state_of v script run) 0;
+      trace = events;
+      turns =
+          min (turns + 1) (2 ^ 64 - 1);
+    }) trace
 
 -- the engines have nothing to do
 pub no_action : (v : Volume) (script : Script) (run : Run) (actor : ℕ) → IsReached v script run → actor ≢ 0 → action_of (state_of v script run) actor ≡ None
@@ -43,4 +50,10 @@ stepped-engine v script run turns actor reached other =
     let trace : run.trace ≡ run.trace ++ event_of turns actor (answer_of (state_of v script run) actor) =
     sym (append-nil run.trace) ∙ ap (λ (a : Turn). run.trace ++ event_of turns actor a) (sym answers) in
     ap (λ (m : State). record { start = v; state = m; trace = run.trace; turns = min (turns + 1) (2 ^ 64 - 1) }) (sym stays)
-    ∙ ap (λ (events : List Event). record { start = v; state = after_turn (state_of v script run) actor; trace = events; turns = min (turns + 1) (2 ^ 64 - 1) }) trace
+    ∙ ap (λ (events : List Event). record {
+      start = v;
+      state = after_turn (state_of v script run) actor;
+      trace = events;
+      turns =
+          min (turns + 1) (2 ^ 64 - 1);
+    }) trace

@@ -13,19 +13,20 @@ use Rattle.bd_machine.specs.declared.turn.Event.{Event}
 use Rattle.bd_machine.specs.declared.turn.Turn.TheVariants.{Did, Idle}
 use Rattle.bd_machine.specs.Course.{after_events, visible}
 use Rattle.bd_machine.specs.Machine.{Action, State, action_of, after_turn, answer_of, boot_state, next_action, state_after, visible_of}
-use Rattle.bd_machine.specs.Running.{FollowsTrace, IsAt, IsReached, Phase, Turned, state_of}
+use Rattle.bd_machine.specs.Running.{FollowsTrace, IsAtPhase, IsReached, Phase, Turned, state_of}
 use Rattle.bd_machine.specs.Simple.{Grants, Wish, simple_script}
 use Rattle.bd_machine.proofs.Actions.{at_phase}
 use Rattle.bd_machine.proofs.JournalLaws.{after_events-push, visible-push}
 
 -- what a machine keeps at a phase stands for the phase's state
-pub state_at : {v : Volume} {w : Wish} (g : Grants v w) (phase : Phase) (run : Run) → IsAt g phase run → state_of v (simple_script w) run ≡ at_phase g phase
+pub state_at : {v : Volume} {w : Wish} (g : Grants v w) (phase : Phase) (run : Run) → IsAtPhase g phase run →
+    state_of v (simple_script w) run ≡ at_phase g phase
 state_at g phase run at = rw (at.open_is, at.ended_is, at.used_is, at.journal_is) refl
 
 -- an effective turn: the action of a phase leads to another phase, and the trace grows by its event
 pub turned : (v : Volume) (w : Wish) (g : Grants v w) (phase next_phase : Phase) (run next : Run) (turn : ℕ) (act : Action) →
-    IsVolume v → IsAt g phase run → FollowsTrace (start_store v (simple_script w)) (state_of v (simple_script w) run) run.trace →
-    next_action (at_phase g phase) 0 ≡ Some act → state_after (at_phase g phase) 0 act ≡ at_phase g next_phase → IsAt g next_phase next →
+    IsVolume v → IsAtPhase g phase run → FollowsTrace (start_store v (simple_script w)) (state_of v (simple_script w) run) run.trace →
+    next_action (at_phase g phase) 0 ≡ Some act → state_after (at_phase g phase) 0 act ≡ at_phase g next_phase → IsAtPhase g next_phase next →
     next.trace ≡ run.trace ++ record { turn = turn; actor = 0; row = act.row } ∷ [] →
     Turned v (simple_script w) run next turn (Did act.row)
 turned v w g phase next_phase run next turn act sound at follows acts leads at_next traced =
@@ -69,9 +70,11 @@ either_same true x = refl
 either_same false x = refl
 
 -- a turn with nothing to do
-pub idle : (v : Volume) (script : Script) (run : Run) (turn : ℕ) → IsReached v script run → next_action (state_of v script run) 0 ≡ None → Turned v script run run turn Idle
+pub idle : (v : Volume) (script : Script) (run : Run) (turn : ℕ) → IsReached v script run → next_action (state_of v script run) 0 ≡ None →
+    Turned v script run run turn Idle
 idle v script run turn reached none =
-    let no_action : action_of (state_of v script run) 0 ≡ None = ap (λ (act : Option Action). cond (nat_lt 0 (length script.processes)) act None) none ∙ either_same _ _ in
+    let no_action : action_of (state_of v script run) 0
+    ≡ None = ap (λ (act : Option Action). cond (nat_lt 0 (length script.processes)) act None) none ∙ either_same _ _ in
     record {
       answers = ap (λ (act : Option Action). option_map_or (λ (a : Action). Did a.row) act Idle) (sym no_action);
       state = ap (λ (act : Option Action). option_map_or (λ (a : Action). state_after (state_of v script run) 0 a) act (state_of v script run)) (sym no_action);

@@ -3,6 +3,5 @@ pub mod Machine
 pub mod Course
 pub mod Simple
 pub mod Running
-pub mod Texts
 pub mod Refusals
 pub mod Laws

@@ -17,16 +17,18 @@ use Rattle.bd_base.specs.Pieces.{Piece, pieces}
 use Rattle.bd_base.specs.Policy.{open_denial}
 use Rattle.bd_entry.specs.declared.entry.Entry.{Entry}
 use Rattle.bd_entry.specs.declared.entry.Entry.TheVariants.{Access, Attached, Mapped, Opened}
-use Rattle.bd_entry.specs.Calls.{calls_of, is_access_of, is_ended_by, opened_fd}
-use Rattle.bd_entry.specs.History.{effect_of}
-use Rattle.bd_entry.specs.Rules.{bytes_within}
-use Rattle.bd_entry.specs.Store.{Descriptor, Store, blocks_in, descriptor_at, file_at, has_part, limit_at, lowest_fd, next_part, work_of}
+use Rattle.bd_entry.specs.Calls.{at_of, calls_of, is_answered, is_ended_by, opened_fd}
+use Rattle.bd_entry.specs.Effects.{effect_of}
+use Rattle.bd_entry.specs.Rules.{place_in}
+use Rattle.bd_entry.specs.RulesOfContents.{bytes_within}
+use Rattle.bd_entry.specs.Store.{Descriptor, Store, blocks_in, descriptor_at, file_in, has_part, limit_in, lowest_fd, next_part, work_of}
 use Rattle.bd_machine.specs.declared.turn.Row.{Row}
 use Rattle.bd_machine.specs.declared.turn.Row.TheVariants as rows
 use Rattle.bd_machine.specs.declared.turn.Turn.{Turn}
 use Rattle.bd_machine.specs.declared.turn.Turn.TheVariants.{Did, Idle}
 
--- a state: the script, the plain store, the journal so far, and for each process how many of its calls have ended and how many effective turns its running call has used
+-- a state: the script, the plain store, the journal so far, and for each process how many of its calls have ended and
+-- how many effective turns its running call has used
 pub record State : Type 0 where
   pub script : Script
   pub store : Store
@@ -52,8 +54,8 @@ pub record Action : Type 0 where
   pub entry : Entry
 
 -- an open that has not opened yet: where the name is there, the policy allows and a descriptor is free
-abbrev pub opening : Store → At → List ℕ → Mode → How → Option Entry
-opening s at name mode how =
+abbrev pub open_entry : Store → At → List ℕ → Mode → How → Option Entry
+open_entry s at name mode how =
     option_and_then
     (λ file. option_and_then
     (λ (f : Inode). option_and_then
@@ -61,7 +63,7 @@ opening s at name mode how =
     (option_map (λ fd. Opened at file fd mode how) (lowest_fd s at.process))
     None)
     (slice_get s.uids at.process))
-    (file_at s file))
+    (file_in s file))
     (id_of name s.files)
   where
     is_allowed : Option ℕ → Bool
@@ -69,22 +71,22 @@ opening s at name mode how =
     is_allowed (Some rule) = false
 
 -- an open with this descriptor attaches the next part, as long as one can be attached, and then tells how many are
-abbrev pub attaching : Store → At → ℕ → Descriptor → Row × Entry
-attaching s at fd d =
+abbrev pub attach_or_map : Store → At → ℕ → Descriptor → Row × Entry
+attach_or_map s at fd d =
     option_map_or (λ part. (rows.Attach, Attached at fd part)) (next_part s d) (rows.Mapped, Mapped at fd (length d.attached))
 
--- the first piece that has no access yet
+-- the first piece that is not answered yet
 abbrev pub next_piece : List Entry → List Piece → Option ℕ
-next_piece entries cut = find (λ number. not (list_any (is_access_of number) entries)) (range_with_len 0 (length cut))
+next_piece entries cut = find (λ number. not (is_answered number entries)) (range_with_len 0 (length cut))
 
 -- the direct access of this piece, where the descriptor has a right on its part and the file has the block
-abbrev pub moving : Store → At → ℕ → ℕ → Piece → Option Entry
-moving s at fd number piece =
+abbrev pub move_entry : Store → At → ℕ → ℕ → Piece → Option Entry
+move_entry s at fd number piece =
     option_and_then
     (λ (d : Descriptor). cond (has_part (piece.index / PART_BLOCKS) d.attached)
     (option_map
     (λ block. Access at number fd d.file piece.index (Some block) piece.range false ways.Direct
-    (bytes_within s.bytes block piece.range.lo piece.range.hi (limit_at s d.file piece.index)))
+    (bytes_within s.bytes (Some block) piece.range (limit_in s d.file piece.index)))
     (slice_get (blocks_in s d.file) piece.index))
     None)
     (descriptor_at s at.process fd)
@@ -93,13 +95,13 @@ moving s at fd number piece =
 abbrev pub next_of_call : Store → At → Call → List Entry → Option (Row × Entry)
 next_of_call s at (Enter name mode how) entries =
     option_map_or
-    (λ fd. option_map (attaching s at fd) (descriptor_at s at.process fd))
+    (λ fd. option_map (attach_or_map s at fd) (descriptor_at s at.process fd))
     (opened_fd entries)
-    (option_map (λ entry. (rows.Opened, entry)) (opening s at name mode how))
+    (option_map (λ entry. (rows.Opened, entry)) (open_entry s at name mode how))
 next_of_call s at (Read fd off len) entries =
     option_and_then
     (λ number. option_and_then
-    (λ piece. option_map (λ entry. (rows.Move, entry)) (moving s at fd number piece))
+    (λ piece. option_map (λ entry. (rows.Move, entry)) (move_entry s at fd number piece))
     (slice_get (pieces off len) number))
     (next_piece entries (pieces off len))
 -- no turn acts for a call of another kind
@@ -121,7 +123,7 @@ state_after m process act =
     let ends = is_ended_by act.call (work_of m.store process ++ act.entry ∷ []) in
     record {
       script = m.script;
-      store = effect_of m.store act.call act.entry;
+      store = effect_of m.store (place_in m.store act.call (at_of act.entry)) act.entry;
       journal = m.journal ++ act.entry ∷ [];
       ended = cond ends (slice_set m.ended process (slice_index m.ended process + 1)) m.ended;
       used = slice_set m.used process (cond ends 0 (slice_index m.used process + 1));

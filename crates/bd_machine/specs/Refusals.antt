@@ -2,8 +2,8 @@
 use Rattle.std.specs.Prelude.{◌≡◌, ℕ, List}
 use Rattle.bd_base.specs.declared.script.Script.{Script}
 use Rattle.bd_base.specs.declared.volume.Volume.{Volume}
-use Rattle.bd_machine.specs.declared.error.ScriptError.{ScriptError}
-use Rattle.bd_machine.specs.declared.error.ScriptError.TheVariants.{BadScript, OutOfMemory}
+use Rattle.bd_script.specs.declared.error.ScriptError.{ScriptError}
+use Rattle.bd_script.specs.declared.error.ScriptError.TheVariants.{BadScript, OutOfMemory}
 use Rattle.bd_machine.specs.Simple.{IsSimpleText}
 
 -- the text is that of no script that is simple for the volume

@@ -15,7 +15,7 @@ use Rattle.bd_base.specs.Volumes.{IsVolume}
 use Rattle.bd_entry.specs.declared.entry.Entry.{Entry}
 use Rattle.bd_entry.specs.declared.entry.Entry.TheVariants.{Access, Attached, Mapped, Opened}
 use Rattle.bd_entry.specs.History.{InOrderSoFar, Legal}
-use Rattle.bd_entry.specs.Rules.{bytes_within}
+use Rattle.bd_entry.specs.RulesOfContents.{bytes_within}
 use Rattle.bd_entry.specs.Store.{Descriptor, Store, start_store}
 use Rattle.bd_machine.specs.declared.open_file.OpenFile.{OpenFile}
 use Rattle.bd_machine.specs.declared.run.Moved.{Moved}
@@ -28,8 +28,8 @@ use Rattle.bd_machine.specs.Machine.{SomeActorActs, State, after_turn, all_ended
 use Rattle.bd_machine.specs.Simple.{Grants, Wish, simple_script}
 
 -- the descriptor of an open file: the parts below the number attached are attached
-abbrev pub descriptor_of : OpenFile → Descriptor
-descriptor_of o =
+abbrev pub descriptor_from : OpenFile → Descriptor
+descriptor_from o =
     record {
       file = o.file;
       mode = o.mode;
@@ -47,7 +47,7 @@ state_of v script run =
       script = script;
       store =
           record (start_store v script) {
-            opens = (option_map descriptor_of run.opened ∷ replicate (DESCRIPTORS - 1) None) ∷ [];
+            opens = (option_map descriptor_from run.opened ∷ replicate (DESCRIPTORS - 1) None) ∷ [];
             work = cond (nat_eq run.ended 0) run.journal [] ∷ [];
           };
       journal = run.journal;
@@ -55,7 +55,8 @@ state_of v script run =
       used = run.used ∷ [];
     }
 
--- how far a simple script has come: before its first turn, attaching with this many rights attached, before its read, and at its end
+-- how far a simple script has come: before its first turn, attaching with this many rights attached, before its read,
+-- and at its end
 pub data Phase : Type 0 where
   Before : Phase
   Attaching : (attached : ℕ) → Phase
@@ -87,7 +88,7 @@ abbrev pub access_entry : {v : Volume} {w : Wish} → Grants v w → Entry
 access_entry {v} {w} g =
     let block = slice_index g.inode.blocks 0 in
     Access (call_number 1) 0 0 g.file 0 (Some block) (record { lo = 0; hi = w.len }) false ways.Direct
-    (bytes_within v.bytes block 0 w.len (limit_of g.inode.size g.inode.blocks 0))
+    (bytes_within v.bytes (Some block) (record { lo = 0; hi = w.len }) (limit_of g.inode.size g.inode.blocks 0))
 
 -- what the read of the first len bytes of a file moves
 abbrev pub moved_of : Volume → ℕ → Inode → ℕ → Moved
@@ -97,7 +98,7 @@ moved_of v file f len =
       file = file;
       block = block;
       range = record { lo = 0; hi = len };
-      bytes = bytes_within v.bytes block 0 len (limit_of f.size f.blocks 0);
+      bytes = bytes_within v.bytes (Some block) (record { lo = 0; hi = len }) (limit_of f.size f.blocks 0);
     }
 
 -- the journal at each phase
@@ -137,7 +138,7 @@ IsPhase g (Attaching attached) = attached ≤ part_total g
 IsPhase g phase = Unit {0}
 
 -- what a machine keeps is that of the phase
-pub record IsAt {v : Volume} {w : Wish} (g : Grants v w) (phase : Phase) (run : Run) : Type 0 where
+pub record IsAtPhase {v : Volume} {w : Wish} (g : Grants v w) (phase : Phase) (run : Run) : Type 0 where
   pub reached : IsPhase g phase
   pub open_is : run.opened ≡ open_at g phase
   pub ended_is : run.ended ≡ ended_at phase
@@ -156,7 +157,7 @@ pub record IsReached (v : Volume) (script : Script) (run : Run) : Type 0 where
   pub grants : Grants v wish
   pub sound : IsVolume v
   pub phase : Phase
-  pub at : IsAt grants phase run
+  pub at : IsAtPhase grants phase run
   pub follows : FollowsTrace (start_store v script) (state_of v script run) run.trace
 
 -- the event of a turn with this answer
@@ -171,7 +172,8 @@ pub record Turned (v : Volume) (script : Script) (run next : Run) (turn : ℕ) (
   pub trace : next.trace ≡ run.trace ++ event_of turn 0 answer
   pub reached : IsReached v script next
 
--- what contracts see of a machine: the volume that it was made with, its state, the events so far, and how many turns were taken, a number that stops at the last of its type
+-- what contracts see of a machine: the volume that it was made with, its state, the events so far, and how many turns
+-- were taken, a number that stops at the last of its type
 pub record Progress : Type 0 where
   pub start : Volume
   pub state : State
@@ -192,7 +194,8 @@ stepped m actor =
       turns = min (m.turns + 1) (2 ^ 64 - 1);
     }
 
--- the journal is one legal history so far of the store that the volume and the script begin with, it is the one that the trace tells, and it leads to the store as it is now
+-- the journal is one legal history so far of the store that the volume and the script begin with, it is the one that
+-- the trace tells, and it leads to the store as it is now
 pub record IsHistory (m : Progress) : Type 0 where
   pub legal : Legal m.state.script (start_store m.start m.state.script) m.state.journal m.state.store
   pub in_order : InOrderSoFar m.state.script m.state.journal

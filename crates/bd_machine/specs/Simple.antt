@@ -1,6 +1,5 @@
 -- Simple scripts: one process opens a file for direct access and reads its beginning.
-use Rattle.std.specs.Prelude.{◌≢◌, ◌≡◌, ℕ, ◌^◌, ◌<◌, ◌≤◌, List, [], ◌∷◌, ◌++◌, None, Some, codes}
-use Rattle.std.specs.Fmt.{decimal}
+use Rattle.std.specs.Prelude.{◌≡◌, ℕ, ◌≤◌, List, [], ◌∷◌, None, Some}
 use Rattle.bd_base.specs.declared.limits.TheConstants.{BLOCK_SIZE}
 use Rattle.bd_base.specs.declared.script.Call.TheVariants.{Enter, Read}
 use Rattle.bd_base.specs.declared.script.How.TheVariants.{Direct}
@@ -9,8 +8,8 @@ use Rattle.bd_base.specs.declared.script.Script.{Script}
 use Rattle.bd_base.specs.declared.volume.Inode.{Inode}
 use Rattle.bd_base.specs.declared.volume.Volume.{Volume}
 use Rattle.bd_base.specs.Inodes.{id_of, inode_at}
-use Rattle.bd_base.specs.Names.{IsName}
 use Rattle.bd_base.specs.Policy.{open_denial}
+use Rattle.bd_script.specs.Texts.{IsScript, script_text}
 
 -- what a simple script is about: the user, the name of the file, and how many bytes of it are read
 pub record Wish : Type 0 where
@@ -30,16 +29,6 @@ simple_script w =
       schedule = [];
     }
 
--- the text of that script
-abbrev pub simple_text : Wish → List ℕ
-simple_text w =
-    codes "bypassd-script 1" ++ 10 ∷ codes "proc " ++ decimal w.uid ++ 10 ∷ codes "open " ++ w.name ++ codes " r direct"
-    ++ 10 ∷ codes "read 0 0 " ++ decimal w.len ++ 10 ∷ []
-
--- the text is that of no wish
-abbrev pub HasNoWish : List ℕ → Type 0
-HasNoWish text = (w : Wish) → w.uid < 2 ^ 32 → IsName w.name → w.len < 2 ^ 64 → text ≢ simple_text w
-
 -- the volume has the file, the policy lets the user read it, and at least one byte and at most its first block is read
 pub record Grants (v : Volume) (w : Wish) : Type 0 where
   pub file : ℕ
@@ -56,6 +45,7 @@ abbrev pub IsSimple : Volume → Script → Type 0
 IsSimple v script = (w : Wish) × (script ≡ simple_script w) × Grants v w
 
 -- the text is that of a script that is simple for the volume
-abbrev pub IsSimpleText : Volume → List ℕ → Script → Type 0
-IsSimpleText v text script =
-    (w : Wish) × (w.uid < 2 ^ 32) × IsName w.name × (text ≡ simple_text w) × (script ≡ simple_script w) × Grants v w
+pub record IsSimpleText (v : Volume) (text : List ℕ) (script : Script) : Type 0 where
+  pub is_script : IsScript script
+  pub text_is : text ≡ script_text script
+  pub simple : IsSimple v script

@@ -2,7 +2,6 @@
 #![tactic(auto)]
 
 mod disk;
-mod error;
 mod files;
 pub mod laws;
 mod machine;
@@ -15,7 +14,7 @@ mod simple_script;
 mod tests;
 mod turn;
 
-pub use error::ScriptError;
+pub use bd_script::ScriptError;
 pub use machine::Machine;
 pub use rounds::replay;
 pub use simple_script::read_simple;

@@ -6,7 +6,6 @@ ghost use Rattle.bd_base.specs.Files.{limit_of, parts_for};
 ghost use Rattle.bd_base.specs.Inodes.{id_of, inode_at};
 ghost use Rattle.bd_base.specs.Volumes.{IsInode, IsVolume};
 ghost use Rattle.bd_entry.specs.Calls.{calls_of};
-ghost use Rattle.bd_entry.specs.Rules.{bytes_within};
 ghost use Rattle.bd_machine.specs.Running.{IsReached, Turned, moved_of};
 
 use crate::disk::Disk;
@@ -38,7 +37,8 @@ fn read_first(start: &Disk, file: FileId, len: u16) -> Result<Option<Moved>, Out
     requires volume { IsVolume start.now }
     requires some { 1 ≤ len }
     requires one_block { len ≤ BLOCK_SIZE }
-    ensures { IfOk result (λ moved. (f : Inode) → inode_at start.now.inodes file ≡ Some f → len ≤ f.size → moved ≡ Some (moved_of start.now file f len)) }
+    ensures { (f : Inode) → inode_at start.now.inodes file ≡ Some f → len ≤ f.size →
+        IfOk result (λ moved. moved ≡ Some (moved_of start.now file f len)) }
 {
     let Some(inode) = start.inode(file) else {
         return Ok(None);

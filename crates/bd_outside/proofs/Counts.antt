@@ -1,76 +1,69 @@
--- How many numbers of a list are below another number.
-use Rattle.std.proofs.Common.{◌≡◌, ℕ, ◌+◌, ◌^◌, ◌<◌, ◌≤◌, Bool, true, false, ◌||◌, cond, List, [], ◌∷◌, length, Option, None, Some, arith, sym, subst, refl}
-use Rattle.std.specs.Prelude.{nat_eq, nat_lt}
+-- How many of the calls that fail came before another call.
+use Rattle.std.proofs.Common.{◌≡◌, ℕ, ◌+◌, ◌^◌, ◌<◌, ◌≤◌, Bool, true, false, ◌||◌, cond, List, [], ◌∷◌, Option, None, Some, count_by, arith, sym, subst, refl}
+use Rattle.std.specs.Prelude.{nat_eq}
 use Rattle.std.specs.List.{list_any}
 use Rattle.std.specs.Bool.{OnTrue}
 use Rattle.std.specs.Option.{SomeIff}
-use Rattle.std.proofs.lemmas.Bool.Decides.{nat_tests}
-use Rattle.bd_outside.specs.Numbered.{numbers_below, numbers_before, Calls, faults_before}
+use Rattle.std.proofs.lemmas.Bool.{eqb-true, false≢true, lt-ltb, ltb-true, le-ltb}
+use Rattle.std.proofs.lemmas.List.Sums.{sum_by-cons}
+use Rattle.bd_outside.specs.Numbered.{is_before, Calls, faults_before}
 
--- one more number, which is below the next number if it is below this one
-pub one-le-next : (n x a b : ℕ) → a ≤ b → cond (nat_lt x n) 1 0 + a ≤ cond (nat_lt x (n + 1)) 1 0 + b
-one-le-next n x a b h = grind (arith, nat_tests)
+-- a test that passes where another does counts no less
+le-step : (p q : Bool) (a b : ℕ) → (p ≡ true → q ≡ true) → a ≤ b → cond p 1 0 + a ≤ cond q 1 0 + b
+le-step false false a b more h = omega arith
+le-step false true a b more h = omega arith
+le-step true q a b more h = rw (more refl) (omega arith)
 
-pub one-lt-next : (n x a b : ℕ) → a ≤ b → nat_eq x n ≡ true → cond (nat_lt x n) 1 0 + a < cond (nat_lt x (n + 1)) 1 0 + b
-one-lt-next n x a b h e = grind (arith, nat_tests)
+lt-step : (p q : Bool) (a b : ℕ) → (p ≡ true → q ≡ true) → a < b → cond p 1 0 + a < cond q 1 0 + b
+lt-step false false a b more h = omega arith
+lt-step false true a b more h = omega arith
+lt-step true q a b more h = rw (more refl) (omega arith)
 
-pub later-lt-next : (n x a b : ℕ) → a < b → cond (nat_lt x n) 1 0 + a < cond (nat_lt x (n + 1)) 1 0 + b
-later-lt-next n x a b h = grind (arith, nat_tests)
+module _ (p q : ℕ → Bool) (more : (x : ℕ) → p x ≡ true → q x ≡ true) where
+  pub count_by-le : (xs : List ℕ) → count_by p xs ≤ count_by q xs
+  count_by-le [] = omega arith
+  count_by-le (x ∷ xs) =
+      let step : cond (p x) 1 0 + count_by p xs ≤ cond (q x) 1 0 + count_by q xs = le-step (p x) (q x) _ _ (more x) (count_by-le xs) in
+      omega (arith, step, sum_by-cons (λ y. cond (p y) 1 0) x xs, sum_by-cons (λ y. cond (q y) 1 0) x xs)
 
-pub one-le-length : (n x a l : ℕ) → a ≤ l → cond (nat_lt x n) 1 0 + a ≤ l + 1
-one-le-length n x a l h = grind (arith, nat_tests)
+  -- and more, where a number is in the list at which only the second test passes
+  found : (n x a b : ℕ) (is here : Bool) → nat_eq x n ≡ here → (here || is) ≡ true → p n ≡ false → q n ≡ true
+      → a ≤ b → (is ≡ true → a < b) → cond (p x) 1 0 + a < cond (q x) 1 0 + b
+  found n x a b true here e any fails passes le lt = lt-step (p x) (q x) a b (more x) (lt refl)
+  found n x a b false false e any fails passes le lt = absurd (false≢true any)
+  found n x a b false true e any fails passes le lt = rw (eqb-true x n e, fails, passes) (omega arith)
 
-pub one-lt-length : (n x a l : ℕ) → a ≤ l → nat_eq x n ≡ true → cond (nat_lt x n) 1 0 + a < l + 1
-one-lt-length n x a l h e = grind (arith, nat_tests)
+  pub count_by-lt : (n : ℕ) (xs : List ℕ) → list_any (λ m. nat_eq m n) xs ≡ true → p n ≡ false → q n ≡ true
+      → count_by p xs < count_by q xs
+  count_by-lt n [] any fails passes = absurd (false≢true any)
+  count_by-lt n (x ∷ xs) any fails passes =
+      let step : cond (p x) 1 0 + count_by p xs < cond (q x) 1 0 + count_by q xs =
+      found n x _ _ (list_any (λ m. nat_eq m n) xs) (nat_eq x n) refl any fails passes (count_by-le xs)
+      (λ later. count_by-lt n xs later fails passes) in
+      omega (arith, step, sum_by-cons (λ y. cond (p y) 1 0) x xs, sum_by-cons (λ y. cond (q y) 1 0) x xs)
 
-pub later-lt-length : (n x a l : ℕ) → a < l → cond (nat_lt x n) 1 0 + a < l + 1
-later-lt-length n x a l h = grind (arith, nat_tests)
+-- the call before the next one, and those before it, came before the next one
+still_before : (n : ℕ) (next : Option ℕ) → SomeIff next (n + 1 < 2 ^ 64) (n + 1) → (m : ℕ) → is_before (Some n) m ≡ true → is_before next m ≡ true
+still_before n None h m before = refl
+still_before n (Some next) h m before = lt-ltb m next (omega (arith, h.1, ltb-true m n before))
 
--- no fewer are below the next number
-pub below-le-next : (n : ℕ) (xs : List ℕ) → numbers_below n xs ≤ numbers_below (n + 1) xs
-below-le-next n [] = omega arith
-below-le-next n (x ∷ xs) = one-le-next n x _ _ (below-le-next n xs)
+now_before : (n : ℕ) (next : Option ℕ) → SomeIff next (n + 1 < 2 ^ 64) (n + 1) → is_before next n ≡ true
+now_before n None h = refl
+now_before n (Some next) h = lt-ltb n next (omega (arith, h.1))
 
-pub below-le-length : (n : ℕ) (xs : List ℕ) → numbers_below n xs ≤ length xs
-below-le-length n [] = omega arith
-below-le-length n (x ∷ xs) = let h = one-le-length n x _ _ (below-le-length n xs) in omega (arith, h)
+-- a call, and what is next after it
+module _ (old : Calls) (n : ℕ) (next : Option ℕ) (fails : List ℕ) where
+  -- the count of the calls that failed does not fall with a call
+  pub faults-le-next : record { next = Some n; fails = fails } ≡ old → SomeIff next (n + 1 < 2 ^ 64) (n + 1)
+      → faults_before old ≤ faults_before (record { next = next; fails = fails })
+  faults-le-next is h =
+      subst (λ (o : Calls). faults_before o ≤ count_by (is_before next) fails) is
+      (count_by-le (is_before (Some n)) (is_before next) (still_before n next h) fails)
 
--- more are below the next number where this one comes first, or more of the others are
-pub next-by-cases : (n x a b : ℕ) (rest : Bool) → a ≤ b → (rest ≡ true → a < b) → (nat_eq x n || rest) ≡ true → cond (nat_lt x n) 1 0 + a < cond (nat_lt x (n + 1)) 1 0 + b
-next-by-cases n x a b true h later any = later-lt-next n x a b (later refl)
-next-by-cases n x a b false h later any = one-lt-next n x a b h (grind (arith, any))
-
-pub length-by-cases : (n x a l : ℕ) (rest : Bool) → a ≤ l → (rest ≡ true → a < l) → (nat_eq x n || rest) ≡ true → cond (nat_lt x n) 1 0 + a < l + 1
-length-by-cases n x a l true h later any = later-lt-length n x a l (later refl)
-length-by-cases n x a l false h later any = one-lt-length n x a l h (grind (arith, any))
-
--- more are below the next number where this one stands in the list
-pub below-lt-next : (n : ℕ) (xs : List ℕ) → list_any (λ m. nat_eq m n) xs ≡ true → numbers_below n xs < numbers_below (n + 1) xs
-below-lt-next n [] any = cc
-below-lt-next n (x ∷ xs) any = next-by-cases n x _ _ (list_any (λ m. nat_eq m n) xs) (below-le-next n xs) (below-lt-next n xs) any
-
--- not all are below a number that stands in the list
-pub below-lt-length : (n : ℕ) (xs : List ℕ) → list_any (λ m. nat_eq m n) xs ≡ true → numbers_below n xs < length xs
-below-lt-length n [] any = cc
-below-lt-length n (x ∷ xs) any =
-    let h = length-by-cases n x _ _ (list_any (λ m. nat_eq m n) xs) (below-le-length n xs) (below-lt-length n xs) any in omega (arith, h)
-
--- the count of the calls that failed does not fall with a call
-pub numbers-le-next : (n : ℕ) (next : Option ℕ) (xs : List ℕ) → SomeIff next (n + 1 < 2 ^ 64) (n + 1) → numbers_below n xs ≤ numbers_before next xs
-numbers-le-next n None xs h = below-le-length n xs
-numbers-le-next n (Some next) xs h = subst (λ (k : ℕ). numbers_below n xs ≤ numbers_below k xs) (sym h.1) (below-le-next n xs)
-
--- and it rises with a call that fails
-pub numbers-lt-next : (n : ℕ) (next : Option ℕ) (xs : List ℕ) → SomeIff next (n + 1 < 2 ^ 64) (n + 1) → list_any (λ m. nat_eq m n) xs ≡ true → numbers_below n xs < numbers_before next xs
-numbers-lt-next n None xs h any = below-lt-length n xs any
-numbers-lt-next n (Some next) xs h any = subst (λ (k : ℕ). numbers_below n xs < numbers_below k xs) (sym h.1) (below-lt-next n xs any)
-
--- the same of the calls as a whole
-pub faults-le-next : (old : Calls) (n : ℕ) (next : Option ℕ) (fails : List ℕ) → record { next = Some n; fails = fails } ≡ old → SomeIff next (n + 1 < 2 ^ 64) (n + 1)
-    → faults_before old ≤ faults_before (record { next = next; fails = fails })
-faults-le-next old n next fails is h = subst (λ (o : Calls). faults_before o ≤ numbers_before next fails) is (numbers-le-next n next fails h)
-
-pub faults-lt-next : (old : Calls) (n : ℕ) (next : Option ℕ) (fails : List ℕ) (r : Bool) → record { next = Some n; fails = fails } ≡ old → SomeIff next (n + 1 < 2 ^ 64) (n + 1)
-    → r ≡ list_any (λ m. nat_eq m n) fails → OnTrue r (faults_before old < faults_before (record { next = next; fails = fails }))
-faults-lt-next old n next fails false is h e = tt
-faults-lt-next old n next fails true is h e = subst (λ (o : Calls). faults_before o < numbers_before next fails) is (numbers-lt-next n next fails h (sym e))
+  -- and it rises with a call that fails
+  pub faults-lt-next : (r : Bool) → record { next = Some n; fails = fails } ≡ old → SomeIff next (n + 1 < 2 ^ 64) (n + 1)
+      → r ≡ list_any (λ m. nat_eq m n) fails → OnTrue r (faults_before old < faults_before (record { next = next; fails = fails }))
+  faults-lt-next false is h e = tt
+  faults-lt-next true is h e =
+      subst (λ (o : Calls). faults_before o < count_by (is_before next) fails) is
+      (count_by-lt (is_before (Some n)) (is_before next) (still_before n next h) n fails (sym e) (le-ltb n n (omega arith)) (now_before n next h))

@@ -1,4 +1,6 @@
 -- The words of the contracts of sources and sinks.
+pub mod Adapters
+pub mod Around
 pub mod Faults
 pub mod Memory
 pub mod Numbered

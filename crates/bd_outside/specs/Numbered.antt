@@ -1,5 +1,5 @@
 -- Calls that are numbered from 0, and the numbers of those that are to fail.
-use Rattle.std.specs.Prelude.{ℕ, ◌+◌, ◌^◌, nat_eq, nat_lt, Bool, false, cond, List, [], ◌∷◌, length, Option, None, Some}
+use Rattle.std.specs.Prelude.{ℕ, ◌+◌, ◌^◌, nat_eq, nat_lt, Bool, true, false, cond, List, Option, None, Some, count_by}
 use Rattle.std.specs.List.{list_any}
 
 -- the number of the next call, None where the numbers are spent, and the numbers of the calls that fail
@@ -21,16 +21,11 @@ abbrev pub next_number : Option ℕ → Option ℕ
 next_number None = None
 next_number (Some n) = cond (nat_lt (n + 1) (2 ^ 64)) (Some (n + 1)) None
 
--- how many of these numbers are below this one
-abbrev pub numbers_below : ℕ → List ℕ → ℕ
-numbers_below n [] = 0
-numbers_below n (m ∷ ms) = cond (nat_lt m n) 1 0 + numbers_below n ms
-
--- how many of these numbers are below that of the next call
-abbrev pub numbers_before : Option ℕ → List ℕ → ℕ
-numbers_before None fails = length fails
-numbers_before (Some n) fails = numbers_below n fails
+-- whether the call of this number came before the next one; where the numbers are spent, each call has
+abbrev pub is_before : Option ℕ → ℕ → Bool
+is_before None m = true
+is_before (Some n) m = nat_lt m n
 
 -- how many of the named calls have failed so far
 abbrev pub faults_before : Calls → ℕ
-faults_before calls = numbers_before calls.next calls.fails
+faults_before calls = count_by (is_before calls.next) calls.fails

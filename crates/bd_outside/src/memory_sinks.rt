@@ -1,7 +1,5 @@
 //! Sinks that hold their bytes in memory.
-ghost use Rattle.std.specs.Prelude.{◌≡◌, ℕ, ◌<◌, ◌≤◌, ◌↔◌, true, List, [], Option, None, Some, length, min};
-ghost use Rattle.std.specs.Io.KnownBytes.{Appends};
-ghost use Rattle.bd_outside.specs.Faults.{Rose};
+ghost use Rattle.std.specs.Prelude.{◌≡◌, ℕ, ◌<◌, ◌≤◌, ◌↔◌, ◌++◌, true, List, [], Option, None, Some, length, min};
 ghost use Rattle.bd_outside.specs.Sink.{bytes_taken, IfTook, OnFailedWrite};
 ghost use Rattle.bd_outside.specs.Numbered.{fails_now, next_number, faults_before};
 
@@ -56,14 +54,15 @@ impl Sink for SureSink {
 
     ghost last_fault = { None };
 
-    /// Takes the lesser of `most` and the piece's length, where there is memory for that. It never fails.
+    /// Takes the lesser of `most` and the piece's length, where there is memory for that.
+    /// It never fails.
     fn write(&mut self, piece: &[u8]) -> Took
         requires { 0 < length piece.now }
         ensures count { IfTook result (λ n. n ≡ min self.old.most (length piece.now)) }
         ensures sure { OnFailedWrite result ⊥ }
         ensures most { self.new.most ≡ self.old.most }
         ensures in_piece { IfTook result (λ n. (1 ≤ n) × (n ≤ length piece.now)) }
-        ensures appended { Appends (Some self.old.held) (Some self.new.held) (bytes_taken result piece.now) }
+        ensures appended { self.new.held ≡ self.old.held ++ bytes_taken result piece.now }
     {
         let count = self.most.min(piece.len());
         match self.bytes.extend_from_slice(&piece[..count]) {
@@ -89,7 +88,8 @@ impl Model for MemSink {
 }
 
 impl MemSink {
-    /// An empty sink. A write takes at most `most` bytes, which is at least 1. The writes whose numbers, from 0, stand in `fails` fail.
+    /// An empty sink. A write takes at most `most` bytes, which is at least 1. The writes whose
+    /// numbers, from 0, stand in `fails` fail.
     pub fn new(alloc: Global, most: usize, fails: NumberList) -> MemSink
         requires { 1 ≤ most }
         ensures held { result.held ≡ [] }
@@ -117,7 +117,8 @@ impl Sink for MemSink {
 
     ghost last_fault = { None };
 
-    /// Fails where the number of this write stands in `fails`. Otherwise it takes the lesser of `most` and the piece's length, where there is memory for that.
+    /// Fails where the number of this write stands in `fails`. Otherwise it takes the lesser of
+    /// `most` and the piece's length, where there is memory for that.
     fn write(&mut self, piece: &[u8]) -> Took
         requires { 0 < length piece.now }
         ensures fails { (result ≡ Took.Failed) ↔ (fails_now self.old.calls ≡ true) }
@@ -126,8 +127,9 @@ impl Sink for MemSink {
         ensures next { self.new.calls.next ≡ next_number self.old.calls.next }
         ensures named { self.new.calls.fails ≡ self.old.calls.fails }
         ensures in_piece { IfTook result (λ n. (1 ≤ n) × (n ≤ length piece.now)) }
-        ensures appended { Appends (Some self.old.held) (Some self.new.held) (bytes_taken result piece.now) }
-        ensures failed { OnFailedWrite result (Rose None (faults_before self.old.calls) (faults_before self.new.calls)) }
+        ensures appended { self.new.held ≡ self.old.held ++ bytes_taken result piece.now }
+        ensures failed { OnFailedWrite result
+            (faults_before self.old.calls < faults_before self.new.calls) }
         ensures faults { faults_before self.old.calls ≤ faults_before self.new.calls }
     {
         if self.calls.count() {

@@ -1,10 +1,8 @@
 //! Sources over bytes in memory.
-ghost use Rattle.std.specs.Prelude.{◌≡◌, ℕ, ◌<◌, ◌≤◌, List, [], Option, None, Some, length, if◌then◌else◌};
-ghost use Rattle.std.specs.Io.KnownBytes.{Consumes, IsAtEnd};
-ghost use Rattle.bd_outside.specs.Faults.{Rose};
+ghost use Rattle.std.specs.Prelude.{◌≡◌, ℕ, ◌<◌, ◌≤◌, ◌++◌, List, [], Option, None, Some, length};
 ghost use Rattle.bd_outside.specs.Source.{bytes_got, IfGot, OnEnd, OnFailedRead};
-ghost use Rattle.bd_outside.specs.Numbered.{fails_now, next_number, faults_before};
-ghost use Rattle.bd_outside.specs.Memory.{next_got};
+ghost use Rattle.bd_outside.specs.Numbered.{next_number, faults_before};
+ghost use Rattle.bd_outside.specs.Memory.{got_of_call, next_got};
 
 use crate::numbered::{NumberList, Numbered};
 use crate::sources::{Got, Source};
@@ -48,15 +46,16 @@ impl Source for SureSource {
 
     ghost last_fault = { None };
 
-    /// Gives as many bytes as the least of `most`, the length of the buffer and what is left. It never fails.
+    /// Gives as many bytes as the least of `most`, the length of the buffer and what is left.
+    /// It never fails.
     fn read(&mut self, buf: &mut [u8]) -> Got
         requires { 0 < length buf.old }
         ensures answer { result ≡ next_got self.old.most (length buf.old) self.old.left }
         ensures most { self.new.most ≡ self.old.most }
         ensures in_buffer { IfGot result (λ n. (1 ≤ n) × (n ≤ length buf.new)) }
-        ensures taken { Consumes (Some self.old.left) (Some self.new.left) (bytes_got result buf.new) }
+        ensures taken { self.old.left ≡ bytes_got result buf.new ++ self.new.left }
         ensures end { OnEnd result (self.old.left ≡ []) }
-        ensures failed { OnFailedRead result (Rose None 0 0) }
+        ensures failed { OnFailedRead result ⊥ }
     {
         let rest = &self.bytes.as_slice()[self.at..];
         let count = self.most.min(buf.len()).min(rest.len());
@@ -85,7 +84,8 @@ impl Model for MemSource {
 }
 
 impl MemSource {
-    /// A source of these bytes. A read gives at most `most` of them, which is at least 1. The reads whose numbers, from 0, stand in `fails` fail.
+    /// A source of these bytes. A read gives at most `most` of them, which is at least 1. The
+    /// reads whose numbers, from 0, stand in `fails` fail.
     pub fn new(bytes: Bytes, most: usize, fails: NumberList) -> MemSource
         requires { 1 ≤ most }
         ensures left { result.left ≡ bytes }
@@ -106,17 +106,19 @@ impl Source for MemSource {
 
     ghost last_fault = { None };
 
-    /// Fails where the number of this read stands in `fails`. Otherwise it gives as many bytes as the least of `most`, the length of the buffer and what is left.
+    /// Fails where the number of this read stands in `fails`. Otherwise it gives as many bytes as
+    /// the least of `most`, the length of the buffer and what is left.
     fn read(&mut self, buf: &mut [u8]) -> Got
         requires { 0 < length buf.old }
-        ensures answer { result ≡ (if fails_now self.old.calls then Got.Failed else next_got self.old.most (length buf.old) self.old.left) }
+        ensures answer { result ≡ got_of_call self.old (length buf.old) }
         ensures most { self.new.most ≡ self.old.most }
         ensures next { self.new.calls.next ≡ next_number self.old.calls.next }
         ensures fails { self.new.calls.fails ≡ self.old.calls.fails }
         ensures in_buffer { IfGot result (λ n. (1 ≤ n) × (n ≤ length buf.new)) }
-        ensures taken { Consumes (Some self.old.left) (Some self.new.left) (bytes_got result buf.new) }
+        ensures taken { self.old.left ≡ bytes_got result buf.new ++ self.new.left }
         ensures end { OnEnd result (self.old.left ≡ []) }
-        ensures failed { OnFailedRead result (Rose None (faults_before self.old.calls) (faults_before self.new.calls)) }
+        ensures failed { OnFailedRead result
+            (faults_before self.old.calls < faults_before self.new.calls) }
         ensures faults { faults_before self.old.calls ≤ faults_before self.new.calls }
     {
         if self.calls.count() {

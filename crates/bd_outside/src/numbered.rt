@@ -9,7 +9,8 @@ use std::marker::Model;
 /// A list of numbers.
 pub type NumberList = List<u64>;
 
-// The calls of a source or sink that fail by plan. After call 2^64 - 1 no call has a number, and none fails.
+// The calls of a source or sink that fail by plan. After call 2^64 - 1 no call has a number, and
+// none fails.
 #[derive(Debug, Drop)]
 pub(crate) struct Numbered {
     next: Option<u64>,

@@ -33,6 +33,7 @@ pub trait Sink {
         requires { 0 < length piece.now }
         ensures in_piece { IfTook result (λ n. (1 ≤ n) × (n ≤ length piece.now)) }
         ensures appended { Appends (held self.old) (held self.new) (bytes_taken result piece.now) }
-        ensures failed { OnFailedWrite result (Rose last_fault (faults self.old) (faults self.new)) }
+        ensures failed { OnFailedWrite result
+            (Rose last_fault (faults self.old) (faults self.new)) }
         ensures faults { faults self.old ≤ faults self.new };
 }

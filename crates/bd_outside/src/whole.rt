@@ -1,9 +1,9 @@
 //! Reading a source to its end, and writing all of some bytes.
-ghost use Rattle.std.specs.Prelude.{◌≡◌, ℕ, ◌+◌, ◌-◌, ◌<◌, ◌≤◌, List, [], Option, Some, length, IfOk, OnOk, OnErr, IsErrOf, IsOk};
-ghost use Rattle.std.specs.Io.KnownBytes.{Appends, Consumes, IsAtEnd};
-ghost use Rattle.bd_outside.specs.Faults.{Rose};
-ghost use Rattle.bd_outside.specs.Source.{bytes_got, IfGot, OnEnd, OnFailedRead, ReadsAll, PassesLimit, TakesAtMost};
-ghost use Rattle.bd_outside.specs.Sink.{AppendsPrefix};
+ghost use Rattle.std.specs.Prelude.{◌≡◌, ◌⊎◌, ℕ, ◌+◌, ◌<◌, ◌≤◌, List, [], length, vec_len, IfOk, OnOk, OnErr, IsErrOf, IsOk};
+ghost use Rattle.std.specs.Io.KnownBytes.{Consumes, IsAtEnd};
+ghost use Rattle.bd_outside.specs.Around.{GaveUp, Left, ReadAll, ReadAtMost, ReadFailed, ReadPast, reading};
+ghost use Rattle.bd_outside.specs.Around.{WriteFailed, Wrote, WrotePrefix, writing};
+ghost use Rattle.bd_outside.specs.Source.{bytes_got, IfGot, OnEnd, OnFailedRead};
 ghost use Rattle.bd_outside.specs.declared.whole.ReadError.TheVariants.{OutOfMemory as read_out_of_memory};
 
 use crate::sinks::{Sink, Took};
@@ -48,45 +48,40 @@ pub enum WriteError {
 // How many bytes one read may give.
 const PIECE: usize = 65_536;
 
-/// Reads a source to its end, where it has at most `limit` bytes left.
-///
-/// A longer source is read for `limit` + 1 bytes, and the answer is `TooLong`. What was read before an error is lost.
-pub fn read_all<S: Source>(alloc: Global, source: &mut S, limit: usize) -> Result<Bytes, ReadError>
-    ensures ok { IfOk result (ReadsAll (S.left source.old) (S.left source.new)) }
-    ensures within { IfOk result (λ v. length v ≤ limit) }
-    ensures too_long { IsErrOf result ReadError.TooLong → PassesLimit limit (S.left source.old) (S.left source.new) }
-    ensures fault { IsErrOf result ReadError.Fault → Rose S.last_fault (S.faults source.old) (S.faults source.new) }
-    ensures err { OnErr result (TakesAtMost (limit + 1) (S.left source.old) (S.left source.new)) }
-    ensures faults { S.faults source.old ≤ S.faults source.new }
+// Room for one read.
+fn room_for_piece(alloc: Global) -> Result<Vec<u8>, AllocError>
+    ensures { IfOk result (λ room. 0 < vec_len room) }
 {
-    let mut buf = vec![in alloc; 0u8; PIECE]?;
-    let mut bytes = Vec::new(alloc);
-    read_pieces(source, buf.as_mut_slice(), &mut bytes, limit)?;
-    Ok(List::from_vec(bytes))
+    vec![in alloc; 0u8; PIECE]
 }
 
-// Reads into `buf`, and appends from there to `bytes`, until the source ends or has given more than `limit` bytes.
-fn read_pieces<S: Source>(
-    source: &mut S,
-    buf: &mut [u8],
-    bytes: &mut Vec<u8>,
-    limit: usize,
-) -> Result<(), ReadError>
-    requires buffer { 0 < length buf.old }
-    requires empty { bytes.old.items ≡ [] }
-    ensures ok { OnOk result (ReadsAll (S.left source.old) (S.left source.new) bytes.new.items) }
-    ensures within { OnOk result (length bytes.new.items ≤ limit) }
-    ensures too_long { IsErrOf result ReadError.TooLong → PassesLimit limit (S.left source.old) (S.left source.new) }
-    ensures fault { IsErrOf result ReadError.Fault → Rose S.last_fault (S.faults source.old) (S.faults source.new) }
-    ensures err { OnErr result (TakesAtMost (limit + 1) (S.left source.old) (S.left source.new)) }
+/// Reads a source to its end, where it has at most `limit` bytes left.
+///
+/// A longer source is read for `limit` + 1 bytes, and the answer is `TooLong`. What was read before
+/// an error is lost. Where no read fails and memory is found, the number of bytes decides alone.
+pub fn read_all<S: Source>(alloc: Global, source: &mut S, limit: usize) -> Result<Bytes, ReadError>
+    ensures all { IfOk result (ReadAll (reading S.Source source.old source.new)) }
+    ensures within { IfOk result (λ bytes. length bytes ≤ limit) }
+    ensures too_long { IsErrOf result ReadError.TooLong → (bytes : List ℕ) ×
+        ReadPast limit (reading S.Source source.old source.new) bytes }
+    ensures fault { IsErrOf result ReadError.Fault →
+        ReadFailed (reading S.Source source.old source.new) }
+    ensures short { Left (reading S.Source source.old source.new) (λ bytes. length bytes ≤ limit) →
+        IsOk result ⊎ GaveUp result }
+    ensures long { Left (reading S.Source source.old source.new) (λ bytes. limit < length bytes) →
+        IsErrOf result ReadError.TooLong ⊎ GaveUp result }
+    ensures taken { ReadAtMost (limit + 1) (reading S.Source source.old source.new) }
     ensures faults { S.faults source.old ≤ S.faults source.new }
 {
+    let mut room = room_for_piece(alloc)?;
+    let buf = room.as_mut_slice();
+    let mut bytes = Vec::new(alloc);
     loop {
         let spare = limit - bytes.len();
         match read_some(source, buf, spare) {
             Got::Bytes(n) if n <= spare => bytes.extend_from_slice(&buf[..n])?,
             Got::Bytes(_) => return Err(ReadError::TooLong),
-            Got::End => return Ok(()),
+            Got::End => return Ok(List::from_vec(bytes)),
             Got::Failed => return Err(ReadError::Fault),
         }
     }
@@ -99,7 +94,7 @@ fn read_some<S: Source>(source: &mut S, buf: &mut [u8], spare: usize) -> Got
     ensures few { IfGot result (λ n. n ≤ spare + 1) }
     ensures taken { Consumes (S.left source.old) (S.left source.new) (bytes_got result buf.new) }
     ensures end { OnEnd result (IsAtEnd (S.left source.old)) }
-    ensures failed { OnFailedRead result (Rose S.last_fault (S.faults source.old) (S.faults source.new)) }
+    ensures failed { OnFailedRead result (ReadFailed (reading S.Source source.old source.new)) }
     ensures faults { S.faults source.old ≤ S.faults source.new }
 {
     if spare < buf.len() {
@@ -111,9 +106,10 @@ fn read_some<S: Source>(source: &mut S, buf: &mut [u8], spare: usize) -> Got
 
 /// Appends all of `bytes` to a sink. After an error the first of them were appended.
 pub fn write_all<K: Sink>(sink: &mut K, bytes: &[u8]) -> Result<(), WriteError>
-    ensures ok { OnOk result (Appends (K.held sink.old) (K.held sink.new) bytes.now) }
-    ensures err { OnErr result (AppendsPrefix (K.held sink.old) (K.held sink.new) bytes.now) }
-    ensures fault { IsErrOf result WriteError.Fault → Rose K.last_fault (K.faults sink.old) (K.faults sink.new) }
+    ensures ok { OnOk result (Wrote (writing K.Sink sink.old sink.new) bytes.now) }
+    ensures err { OnErr result (WrotePrefix (writing K.Sink sink.old sink.new) bytes.now) }
+    ensures fault { IsErrOf result WriteError.Fault →
+        WriteFailed (writing K.Sink sink.old sink.new) }
     ensures faults { K.faults sink.old ≤ K.faults sink.new }
     ensures none { bytes.now ≡ [] → IsOk result × (sink.new ≡ sink.old) }
 {

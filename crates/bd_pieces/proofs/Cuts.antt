@@ -6,25 +6,17 @@ use Rattle.std.proofs.lemmas.List.Sums.{sum_by-cons}
 use Rattle.std.proofs.lemmas.Option.{none-some, same_Some}
 use Rattle.bd_base.specs.declared.limits.TheConstants.{BLOCK_SIZE}
 use Rattle.bd_base.specs.Pieces.{piece_at, pieces}
-use Rattle.bd_pieces.specs.Laws.{AreNeighbours, IsInBlock, PiecesAreTheRange, size_of}
-
--- an item of a list that is made from the numbers from a on
-pub get-map-range : {X : Type 0} (f : ℕ → X) (a n k : ℕ) (x : X) → slice_get (map f (range_with_len a n)) k ≡ Some x → (k < n) × (f (a + k) ≡ x)
-get-map-range f a zero k x e = absurd (none-some x e)
-get-map-range f a (suc n) zero x e = (omega arith, rw add-zero (same_Some _ _ e))
-get-map-range f a (suc n) (suc k) x e =
-    let rest = get-map-range f (a + 1) n k x e in
-    let same : a + 1 + k ≡ a + suc k = omega arith in
-    (omega arith, rw (← same) rest.1)
+use Rattle.bd_base.proofs.Ranges.{get-map-range}
+use Rattle.bd_pieces.specs.Laws.{AreNeighbours, IsInBlock, PiecesAreTheRange, piece_size}
 
 -- the sizes of the pieces from block a on add up to the bytes from there on
 sum-cut : (off len a n : ℕ) → off < BLOCK_SIZE * a + BLOCK_SIZE → BLOCK_SIZE * (a + n) < off + len → off + len ≤ BLOCK_SIZE * (a + n) + BLOCK_SIZE →
-    sum_by size_of (map (piece_at off len) (range_with_len a (suc n))) ≡ off + len - max off (BLOCK_SIZE * a)
-sum-cut off len a zero begins ends covers = omega (arith, sum_by-cons size_of (piece_at off len a) [])
+    sum_by piece_size (map (piece_at off len) (range_with_len a (suc n))) ≡ off + len - max off (BLOCK_SIZE * a)
+sum-cut off len a zero begins ends covers = omega (arith, sum_by-cons piece_size (piece_at off len a) [])
 sum-cut off len a (suc n) begins ends covers =
     omega (
       arith,
-      sum_by-cons size_of (piece_at off len a) (map (piece_at off len) (range_with_len (a + 1) (suc n))),
+      sum_by-cons piece_size (piece_at off len a) (map (piece_at off len) (range_with_len (a + 1) (suc n))),
       sum-cut off len (a + 1) n (omega arith) (omega arith) (omega arith),
     )
 

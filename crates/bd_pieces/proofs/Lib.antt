@@ -1,2 +1,3 @@
 -- Lemmas that the proofs share.
 pub mod Cuts
+pub mod FirstParts

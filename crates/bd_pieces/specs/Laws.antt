@@ -13,8 +13,8 @@ abbrev pub end_of : Piece → ℕ
 end_of piece = BLOCK_SIZE * piece.index + piece.range.hi
 
 -- how many bytes it has
-abbrev pub size_of : Piece → ℕ
-size_of piece = piece.range.hi - piece.range.lo
+abbrev pub piece_size : Piece → ℕ
+piece_size piece = piece.range.hi - piece.range.lo
 
 -- it has at least one byte, and all within its block
 pub record IsInBlock (piece : Piece) : Type 0 where
@@ -31,10 +31,12 @@ pub record AreNeighbours (piece next : Piece) : Type 0 where
 pub record AreBytesOf (off len : ℕ) (cut : List Piece) : Type 0 where
   pub some : 0 < length cut
   pub in_blocks : All IsInBlock cut
-  pub neighbours : (k : ℕ) (piece next : Piece) → slice_get cut k ≡ Some piece → slice_get cut (k + 1) ≡ Some next → AreNeighbours piece next
+  pub neighbours :
+      (k : ℕ) (piece next : Piece) → slice_get cut k ≡ Some piece → slice_get cut (k + 1) ≡ Some next →
+      AreNeighbours piece next
   pub begins : (piece : Piece) → slice_get cut 0 ≡ Some piece → begin_of piece ≡ off
   pub ends : (piece : Piece) → slice_get cut (length cut - 1) ≡ Some piece → end_of piece ≡ off + len
-  pub total : sum_by size_of cut ≡ len
+  pub total : sum_by piece_size cut ≡ len
 
 -- the pieces of a byte range are its bytes, each once
 abbrev pub PiecesAreTheRange : Type 0

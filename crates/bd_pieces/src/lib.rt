@@ -9,7 +9,7 @@ mod piece_list;
 
 pub use cutting::pieces;
 pub use gathering::{PartList, PieceBytes, gather};
-pub use laws::pieces_are_the_range;
+pub use laws::{most_pieces_are_five, pieces_are_the_range};
 pub use piece::{Piece, goes_direct};
 pub use piece_list::{MOST_PIECES, PieceList};
 

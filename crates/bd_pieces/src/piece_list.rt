@@ -3,13 +3,13 @@ ghost use Rattle.std.specs.Prelude.{◌≡◌, ℕ, ◌<◌, [], ◌∷◌, ◌+
 ghost use Rattle.bd_pieces.specs.declared.piece_list.TheConstants.{MOST_PIECES};
 
 use crate::piece::Piece;
-use bd_base::Range;
+use bd_base::{PIECES, Range};
 use std::marker::Model;
 
-/// How many pieces a list has room for: as many as 16,384 bytes may have.
-pub const MOST_PIECES: usize = 5;
+/// How many pieces a list has room for: as many as the bytes of a call may have.
+pub const MOST_PIECES: usize = PIECES as usize;
 
-/// At most `MOST_PIECES` pieces in their order. It takes no memory. Contracts see it as the list of its pieces.
+/// At most [`MOST_PIECES`] pieces in their order, in an array. Contracts see it as the list of its pieces.
 #[derive(Debug, Drop)]
 pub struct PieceList {
     items: [Piece; MOST_PIECES],

@@ -1,12 +1,11 @@
 -- Lemmas that the proofs share.
-pub mod NumberTexts
 pub mod TurnSums
-pub mod FieldTexts
 pub mod Lifts
 pub mod NamedLines
 pub mod NumberLines
 pub mod LineLists
 pub mod ItemTexts
+pub mod LineKinds
 pub mod WordTexts
 pub mod DraftLines
 pub mod DraftItems
@@ -15,6 +14,6 @@ pub mod FormTexts
 pub mod Refusing
 pub mod LineOrder
 pub mod ScheduleOrder
+pub mod ShortLines
 pub mod LawsOfTexts
-pub mod LineEnds
 pub mod ReadBack

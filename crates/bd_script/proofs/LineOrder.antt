@@ -1,21 +1,15 @@
 -- The lines of a script are good, each after those before it.
-use Rattle.std.specs.Prelude.{All, cond, nat_eq}
+use Rattle.std.specs.Prelude.{All}
 use Rattle.std.specs.List.{flat_map}
-use Rattle.std.proofs.Common.{◌≡◌, ℕ, ◌+◌, ◌*◌, ◌<◌, ◌≤◌, Bool, true, false, List, [], ◌∷◌, ◌++◌, length, map, refl, sym, ap, ◌∙◌, subst, arith}
-use Rattle.std.proofs.lemmas.Bool.Decides.{nat_tests}
-use Rattle.std.proofs.lemmas.List.{length-map}
-use Rattle.std.proofs.lemmas.List.Elements.{All-cons, All-head, All-nil, All-tail}
+use Rattle.std.proofs.Common.{◌≡◌, ◌+◌, ◌≤◌, List, [], ◌∷◌, ◌++◌, length, map, refl, ap, ◌∙◌, arith}
+use Rattle.std.proofs.lemmas.List.Elements.{All-head, All-tail}
 use Rattle.bd_base.specs.declared.limits.TheConstants.{CALLS, PROCESSES}
 use Rattle.bd_base.specs.declared.script.Call.{Call}
 use Rattle.bd_base.specs.declared.script.Call.TheVariants.{Enter, Create, Read, Write, Truncate, Unlink, Size, Map, Close, RawRead, RawWrite}
-use Rattle.bd_base.specs.declared.script.Item.{Item}
 use Rattle.bd_base.specs.declared.script.Process.{Process}
-use Rattle.bd_base.specs.declared.script.ScheduleLine.{ScheduleLine}
-use Rattle.bd_base.specs.declared.script.Script.{Script}
-use Rattle.bd_script.specs.declared.limits.TheConstants.{ITEMS, SCHEDULES, TURNS}
-use Rattle.bd_script.specs.Rules.{Counts, HasActors, HasFields, HasPlace, HasTurns, IsForm, IsInOrder, IsInRange, actor_of, counts_of, last_calls, turns_written}
-use Rattle.bd_script.specs.Scripts.{IsCall, IsItem, IsProcess, IsSchedule, IsWithinLimits, total_turns, turns_of}
-use Rattle.bd_script.specs.Texts.{Alone, CallForm, Form, ProcForm, ScheduleForm, Times, Written, process_lines, schedule_line, script_lines, written}
+use Rattle.bd_script.specs.Rules.{Counts, HasActors, HasFields, HasPlace, IsForm, IsInOrder, IsInRange, last_calls, turns_written}
+use Rattle.bd_base.specs.Scripts.{IsCall, IsProcess}
+use Rattle.bd_script.specs.Texts.{CallForm, Form, ProcForm, ScheduleForm, process_lines}
 
 -- a line that meets all rules after lines with these counts
 pub record IsGood (c : Counts) (f : Form) : Type 0 where
@@ -66,19 +60,30 @@ call-fields (Close fd) is = tt
 call-fields (RawRead vba range) is = omega (arith, is.1)
 call-fields (RawWrite vba lo bytes) is = (is.2.0, is.2.1)
 
-good-calls : (c : Counts) (calls : List Call) → 1 ≤ c.processes → c.schedules ≡ 0 → c.calls + length calls ≤ CALLS → All IsCall calls → AreGood c (map CallForm calls)
+good-calls : (c : Counts) (calls : List Call) → 1 ≤ c.processes → c.schedules ≡ 0 → c.calls + length calls ≤ CALLS → All IsCall calls
+    → AreGood c
+    (map CallForm calls)
 good-calls c [] some none few are = tt
 good-calls c (call ∷ calls) some none few are = (
-  record { is_form = call-fields call (All-head IsCall call calls are); in_range = All-head IsCall call calls are; in_order = (some, none); has_place = omega (arith, few); has_actors = tt },
+  record {
+    is_form = call-fields call (All-head IsCall call calls are);
+    in_range = All-head IsCall call calls are;
+    in_order =
+        (some, none);
+    has_place = omega (arith, few);
+    has_actors = tt;
+  },
   good-calls (count c (CallForm call)) calls some none (omega (arith, few)) (All-tail IsCall call calls are),
 )
 
 after-calls : (c : Counts) (calls : List Call) →
-    let d = after c (map CallForm calls) in (d.processes ≡ c.processes) × (d.calls ≡ c.calls + length calls) × (d.schedules ≡ c.schedules) × (d.turns ≡ c.turns)
+    let d = after c (map CallForm calls) in (d.processes ≡ c.processes) × (d.calls ≡ c.calls + length calls) × (d.schedules ≡ c.schedules)
+    × (d.turns ≡ c.turns)
 after-calls c [] = (refl, omega arith, refl, refl)
 after-calls c (call ∷ calls) = let more = after-calls (count c (CallForm call)) calls in (more.0, omega (arith, more.1), more.2, more.3)
 
-pub good-processes : (c : Counts) (ps : List Process) → c.schedules ≡ 0 → c.processes + length ps ≤ PROCESSES → All IsProcess ps → AreGood c (flat_map process_lines ps)
+pub good-processes : (c : Counts) (ps : List Process) → c.schedules ≡ 0 → c.processes + length ps ≤ PROCESSES → All IsProcess ps → AreGood c
+    (flat_map process_lines ps)
 good-processes c [] none few are = tt
 good-processes c (p ∷ ps) none few are =
     let one : Counts = count c (ProcForm p.uid) in
@@ -96,8 +101,12 @@ after-processes c (p ∷ ps) =
     let one : Counts = count c (ProcForm p.uid) in
     let calls = after-calls one p.calls in
     let more = after-processes (after one (map CallForm p.calls)) ps in
-    let same = after-append one (map CallForm p.calls) (flat_map process_lines ps) in
-    (ap (λ (d : Counts). d.processes) same ∙ more.0 ∙ omega (arith, calls.0), ap (λ (d : Counts). d.schedules) same ∙ more.1 ∙ calls.2, ap (λ (d : Counts). d.turns) same ∙ more.2 ∙ calls.3)
+    let same = after-append one (map CallForm p.calls) (flat_map process_lines ps) in (
+      ap (λ (d : Counts). d.processes) same ∙ more.0 ∙ omega (arith, calls.0),
+      ap (λ (d : Counts). d.schedules) same ∙ more.1 ∙ calls.2,
+      ap
+          (λ (d : Counts). d.turns) same ∙ more.2 ∙ calls.3,
+    )
 
 pub after-last : (c : Counts) (p : Process) (ps : List Process) → (after c (flat_map process_lines (p ∷ ps))).calls ≡ last_calls (p ∷ ps)
 after-last c p [] =
@@ -106,4 +115,5 @@ after-last c p [] =
     ap (λ (d : Counts). d.calls) (after-append one (map CallForm p.calls) []) ∙ calls.1 ∙ omega arith
 after-last c p (q ∷ ps) =
     let one : Counts = count c (ProcForm p.uid) in
-    ap (λ (d : Counts). d.calls) (after-append one (map CallForm p.calls) (flat_map process_lines (q ∷ ps))) ∙ after-last (after one (map CallForm p.calls)) q ps
+    ap (λ (d : Counts). d.calls) (after-append one (map CallForm p.calls) (flat_map process_lines (q ∷ ps))) ∙ after-last
+    (after one (map CallForm p.calls)) q ps

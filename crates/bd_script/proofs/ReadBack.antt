@@ -1,14 +1,14 @@
 -- A script is read back from its lines.
-use Rattle.std.specs.Prelude.{All, cond, nat_eq}
+use Rattle.std.specs.Prelude.{cond, nat_eq}
 use Rattle.std.specs.List.{flat_map}
-use Rattle.std.proofs.Common.{◌≡◌, ℕ, Bool, true, false, List, [], ◌∷◌, ◌++◌, map, refl, sym, ap, ◌∙◌, append_assoc, append-nil, arith}
+use Rattle.std.proofs.Common.{◌≡◌, ℕ, Bool, true, false, List, [], ◌∷◌, ◌++◌, map, refl, sym, ap, ◌∙◌, append_assoc, arith}
 use Rattle.std.proofs.lemmas.Bool.Decides.{nat_tests}
 use Rattle.bd_base.specs.declared.script.Call.{Call}
 use Rattle.bd_base.specs.declared.script.Item.{Item}
 use Rattle.bd_base.specs.declared.script.Process.{Process}
 use Rattle.bd_base.specs.declared.script.ScheduleLine.{ScheduleLine}
 use Rattle.bd_base.specs.declared.script.Script.{Script}
-use Rattle.bd_script.specs.Texts.{Alone, CallForm, Form, ProcForm, ScheduleForm, Times, Written, process_lines, schedule_line, script_lines, written}
+use Rattle.bd_script.specs.Texts.{Alone, CallForm, Form, ProcForm, ScheduleForm, Times, Written, process_lines, schedule_line, script_lines, written_item}
 
 -- the calls before the next process or schedule line
 abbrev calls_front : List Form → List Call
@@ -34,13 +34,15 @@ schedule_back (CallForm call ∷ fs) = schedule_back fs
 schedule_back (ScheduleForm items ∷ fs) = record { items = map item_back items } ∷ schedule_back fs
 
 item-back : (i : Item) (b : Bool) → nat_eq i.turns 1 ≡ b → item_back (cond b (Alone i.actor) (Times i.actor i.turns)) ≡ i
-item-back i true same = let one : 1 ≡ i.turns = grind (arith, nat_tests, same) in ap (λ (n : ℕ). let j : Item = record { actor = i.actor; turns = n } in j) one
+item-back i true same = let one : 1 ≡ i.turns = grind (arith, nat_tests, same) in ap (λ (n : ℕ). let j : Item = record { actor = i.actor; turns = n }
+    in j) one
 item-back i false same = refl
 
-items-back : (items : List Item) → map item_back (map written items) ≡ items
+items-back : (items : List Item) → map item_back (map written_item items) ≡ items
 items-back [] = refl
 items-back (i ∷ items) =
-    ap (λ (j : Item). j ∷ map item_back (map written items)) (item-back i (nat_eq i.turns 1) refl) ∙ ap (λ (l : List Item). i ∷ l) (items-back items)
+    ap (λ (j : Item). j ∷ map item_back (map written_item items)) (item-back i (nat_eq i.turns 1) refl)
+    ∙ ap (λ (l : List Item). i ∷ l) (items-back items)
 
 calls-back : (calls : List Call) (rest : List Form) → calls_front rest ≡ [] → calls_front (map CallForm calls ++ rest) ≡ calls
 calls-back [] rest none = none
@@ -66,7 +68,8 @@ processes-back (p ∷ ps) ls =
     let lines = append_assoc (map CallForm p.calls) (flat_map process_lines ps) (map schedule_line ls) in
     let calls = ap calls_front lines ∙ calls-back p.calls rest (no-calls ps ls) in
     let more = ap processes_back lines ∙ past-calls p.calls rest ∙ processes-back ps ls in
-    ap (λ (l : List Call). let q : Process = record { uid = p.uid; calls = l } in q ∷ processes_back ((map CallForm p.calls ++ flat_map process_lines ps) ++ map schedule_line ls)) calls
+    ap (λ (l : List Call). let q : Process = record { uid = p.uid; calls = l } in q ∷ processes_back
+    ((map CallForm p.calls ++ flat_map process_lines ps) ++ map schedule_line ls)) calls
     ∙ ap (λ (l : List Process). p ∷ l) more
 
 past-processes : (calls : List Call) (rest : List Form) → schedule_back (map CallForm calls ++ rest) ≡ schedule_back rest
@@ -76,7 +79,8 @@ past-processes (call ∷ calls) rest = past-processes calls rest
 lines-back : (ls : List ScheduleLine) → schedule_back (map schedule_line ls) ≡ ls
 lines-back [] = refl
 lines-back (l ∷ ls) =
-    ap (λ (items : List Item). let k : ScheduleLine = record { items = items } in k ∷ schedule_back (map schedule_line ls)) (items-back l.items) ∙ ap (λ (ks : List ScheduleLine). l ∷ ks) (lines-back ls)
+    ap (λ (items : List Item). let k : ScheduleLine = record { items = items } in k ∷ schedule_back (map schedule_line ls)) (items-back l.items)
+    ∙ ap (λ (ks : List ScheduleLine). l ∷ ks) (lines-back ls)
 
 schedule-back : (ps : List Process) (ls : List ScheduleLine) → schedule_back (flat_map process_lines ps ++ map schedule_line ls) ≡ ls
 schedule-back [] ls = lines-back ls

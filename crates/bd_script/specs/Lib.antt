@@ -6,6 +6,5 @@ pub mod Refusals
 pub mod Refused
 pub mod Rules
 pub mod Schedules
-pub mod Scripts
 pub mod Texts
 pub mod Words

@@ -1,7 +1,7 @@
 -- What a line is read as.
 use Rattle.std.specs.Prelude.{◌≡◌, ℕ, ◌+◌, ◌≤◌, List, length, map, take}
 use Rattle.bd_base.specs.declared.script.Call.{Call}
-use Rattle.bd_script.specs.declared.limits.TheConstants.{ITEMS}
+use Rattle.bd_base.specs.declared.limits.TheConstants.{ITEMS}
 use Rattle.bd_script.specs.declared.lines.Line.{Line}
 use Rattle.bd_script.specs.declared.lines.Line.TheVariants.{Proc, Call as CallRead, Schedule}
 use Rattle.bd_script.specs.Rules.{IsForm, IsInRange}
@@ -12,7 +12,8 @@ use Rattle.bd_script.specs.Texts.{Form, ProcForm, CallForm, ScheduleForm, Writte
 abbrev pub Stands : Line → Form → Type 0
 Stands (Proc uid) form = form ≡ ProcForm uid
 Stands (CallRead call) form = form ≡ CallForm call
-Stands (Schedule kept) form = (items : List Written) × (form ≡ ScheduleForm items) × (kept.items ≡ map kept_of (take (ITEMS + 1) items))
+Stands (Schedule kept) form =
+    (items : List Written) × (form ≡ ScheduleForm items) × (kept.items ≡ map kept_of (take (ITEMS + 1) items))
 
 -- the line has a form in range, for which what was read stands
 pub record IsReadLine (text : List ℕ) (line : Line) : Type 0 where

@@ -1,17 +1,18 @@
 -- What the steps of reading a script answer.
-use Rattle.std.specs.Prelude.{◌≡◌, ◌≢◌, ℕ, ◌+◌, ◌-◌, ◌^◌, ◌<◌, ◌≤◌, min, Bool, true, false, Option, None, Some, List, [], ◌∷◌, ◌++◌, length, map, take, codes, All}
+use Rattle.std.specs.Prelude.{◌≡◌, ◌≢◌, ℕ, ◌≤◌, Option, None, Some, List, length}
 use Rattle.bd_base.specs.Bytes.{AreBytes}
 use Rattle.bd_base.specs.Names.{IsName}
 use Rattle.bd_base.specs.declared.script.Call.{Call}
-use Rattle.bd_base.specs.declared.script.How.{How}
-use Rattle.bd_base.specs.declared.script.Mode.{Mode}
 use Rattle.bd_blocks.specs.Runs.{runs_text}
+use Rattle.bd_blocks.specs.Texts.{IsWithin, before, number_text, two_numbers_text}
+use Rattle.bd_blocks.specs.declared.text.numbers.Within.{Within}
 use Rattle.bd_script.specs.declared.fault.Fault.{Fault}
 use Rattle.bd_script.specs.declared.fault.Fault.TheVariants.{Form as FormFault, Range, Order, Place, Actor, OutOfMemory}
-use Rattle.bd_script.specs.declared.numbers.Within.{Within}
-use Rattle.bd_script.specs.Rules.{HasFields, IsForm, IsInRange}
-use Rattle.bd_script.specs.Scripts.{IsCall}
-use Rattle.bd_script.specs.Texts.{Form, before, call_text, form_text, number_text, mode_text, how_text}
+use Rattle.bd_script.specs.declared.fields.Placed.{Placed}
+use Rattle.bd_script.specs.declared.numbers.Triple.{Triple}
+use Rattle.bd_script.specs.Rules.{IsForm, IsInRange}
+use Rattle.bd_base.specs.Scripts.{IsCall}
+use Rattle.bd_script.specs.Texts.{call_text, form_text}
 
 -- the number of the rule that a fault is about
 abbrev pub fault_rule : Fault → Option ℕ
@@ -22,27 +23,21 @@ fault_rule Place = Some 7
 fault_rule Actor = Some 8
 fault_rule OutOfMemory = None
 
--- the number is within the range
-abbrev pub IsWithin : Within → ℕ → Type 0
-IsWithin range n = (range.least ≤ n) × (n ≤ range.most)
-
 -- why a text is not read as a value of a kind: it is the text of none, or that of one that does not fit
-abbrev pub Refuses : {A : Type 0} → (A → List ℕ) → (A → Type 0) → (A → Type 0) → List ℕ → Fault → Type 0
+abbrev pub Refuses : {A : Type 0} → (A → List ℕ) → (A → Type 0) → (A → Type 0) → List ℕ → Fault
+    → Type 0
 Refuses {A} text_of Has Fits text FormFault = (a : A) → Has a → text ≢ text_of a
 Refuses {A} text_of Has Fits text Range = (a : A) × Has a × (text ≡ text_of a) × ¬ Fits a
 Refuses {A} text_of Has Fits text OutOfMemory = Unit {0}
 Refuses {A} text_of Has Fits text fault = ⊥
 
--- two numbers, and three, parted by spaces
-abbrev pub pair_text : ℕ × ℕ → List ℕ
-pair_text p = before (number_text p.0) (number_text p.1)
-
-abbrev pub triple_text : ℕ × ℕ × ℕ → List ℕ
-triple_text t = before (number_text t.0) (before (number_text t.1) (number_text t.2))
+-- three numbers, parted by spaces
+abbrev pub triple_text : Triple → List ℕ
+triple_text t = before (number_text t.first) (before (number_text t.second) (number_text t.third))
 
 -- two numbers and bytes as runs
-abbrev pub placed_text : ℕ × ℕ × List ℕ → List ℕ
-placed_text p = before (number_text p.0) (before (number_text p.1) (runs_text p.2))
+abbrev pub placed_text : Placed → List ℕ
+placed_text p = before (number_text p.first) (before (number_text p.second) (runs_text p.bytes))
 
 -- a name and a number
 abbrev pub named_text : List ℕ × ℕ → List ℕ
@@ -52,24 +47,32 @@ named_text p = before p.0 (number_text p.1)
 abbrev pub AreSome : List ℕ → Type 0
 AreSome bytes = AreBytes bytes × (1 ≤ length bytes)
 
+-- each number is in its range, and of the bytes there are not too many
+abbrev pub FitsPair : Within → Within → ℕ × ℕ → Type 0
+FitsPair a b p = IsWithin a p.0 × IsWithin b p.1
+
+abbrev pub FitsTriple : Within → Within → Within → Triple → Type 0
+FitsTriple a b c t = IsWithin a t.first × IsWithin b t.second × IsWithin c t.third
+
+abbrev pub FitsPlaced : Within → Within → ℕ → Placed → Type 0
+FitsPlaced a b most p = IsWithin a p.first × IsWithin b p.second × (length p.bytes ≤ most)
+
+-- the refusals of a number, of two and three, of bytes, of numbers with bytes, and of a name and a number
 abbrev pub RefusesNumber : Within → List ℕ → Fault → Type 0
 RefusesNumber a text fault = Refuses number_text (λ (n : ℕ). Unit {0}) (IsWithin a) text fault
 
 abbrev pub RefusesPair : Within → Within → List ℕ → Fault → Type 0
-RefusesPair a b text fault =
-    Refuses pair_text (λ (p : ℕ × ℕ). Unit {0}) (λ (p : ℕ × ℕ). IsWithin a p.0 × IsWithin b p.1) text fault
+RefusesPair a b text fault = Refuses two_numbers_text (λ (p : ℕ × ℕ). Unit {0}) (FitsPair a b) text fault
 
 abbrev pub RefusesTriple : Within → Within → Within → List ℕ → Fault → Type 0
-RefusesTriple a b c text fault =
-    Refuses triple_text (λ (t : ℕ × ℕ × ℕ). Unit {0}) (λ (t : ℕ × ℕ × ℕ). IsWithin a t.0 × IsWithin b t.1 × IsWithin c t.2) text fault
+RefusesTriple a b c text fault = Refuses triple_text (λ (t : Triple). Unit {0}) (FitsTriple a b c) text fault
 
 abbrev pub RefusesBytes : ℕ → List ℕ → Fault → Type 0
 RefusesBytes most text fault = Refuses runs_text AreSome (λ (bytes : List ℕ). length bytes ≤ most) text fault
 
 abbrev pub RefusesPlaced : Within → Within → ℕ → List ℕ → Fault → Type 0
 RefusesPlaced a b most text fault =
-    Refuses placed_text (λ (p : ℕ × ℕ × List ℕ). AreSome p.2)
-    (λ (p : ℕ × ℕ × List ℕ). IsWithin a p.0 × IsWithin b p.1 × (length p.2 ≤ most)) text fault
+    Refuses placed_text (λ (p : Placed). AreSome p.bytes) (FitsPlaced a b most) text fault
 
 abbrev pub RefusesNamed : Within → List ℕ → Fault → Type 0
 RefusesNamed a text fault =

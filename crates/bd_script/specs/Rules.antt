@@ -1,15 +1,14 @@
 -- The rules of a script's lines, and which of them a line breaks after the lines of a script.
-use Rattle.std.specs.Prelude.{◌≡◌, ◌≢◌, ℕ, ◌+◌, ◌*◌, ◌<◌, ◌≤◌, Bool, true, false, List, [], ◌∷◌, length, All}
-use Rattle.bd_base.specs.Bounds.{Bounds}
+use Rattle.std.specs.Prelude.{◌≡◌, ℕ, ◌+◌, ◌*◌, ◌<◌, ◌≤◌, Bool, true, List, [], ◌∷◌, length, All}
+use Rattle.bd_base.specs.Rules.{IsLeastBroken}
 use Rattle.bd_base.specs.Bytes.{AreBytes}
 use Rattle.bd_base.specs.Names.{IsName}
-use Rattle.bd_base.specs.declared.limits.TheConstants.{CALLS, PROCESSES}
+use Rattle.bd_base.specs.declared.limits.TheConstants.{CALLS, ITEMS, PROCESSES, SCHEDULES, TURNS, USERS}
 use Rattle.bd_base.specs.declared.script.Call.{Call}
-use Rattle.bd_base.specs.declared.script.Call.TheVariants.{Enter, Create, Read, Write, Truncate, Unlink, Size, Map, Close, RawRead, RawWrite}
+use Rattle.bd_base.specs.declared.script.Call.TheVariants.{Enter, Create, Write, Unlink, RawRead, RawWrite}
 use Rattle.bd_base.specs.declared.script.Process.{Process}
 use Rattle.bd_base.specs.declared.script.Script.{Script}
-use Rattle.bd_script.specs.declared.limits.TheConstants.{ITEMS, SCHEDULES, TURNS, USERS}
-use Rattle.bd_script.specs.Scripts.{IsCall, total_turns}
+use Rattle.bd_base.specs.Scripts.{IsCall, total_turns}
 use Rattle.bd_script.specs.Texts.{Form, ProcForm, CallForm, ScheduleForm, Written, Alone, Times, form_text}
 
 -- the fields of a call are of their kinds: its name is a name, its bytes are some
@@ -120,8 +119,6 @@ Obeys c line ended Places = (f : Form) → IsForm f → line ≡ form_text f →
 Obeys c line ended Actors = (f : Form) → IsForm f → line ≡ form_text f → HasActors c f
 
 -- of the rules that the line breaks the least is the one of this number
-pub record IsLeastBroken (c : Counts) (line : List ℕ) (ended : Bool) (number : ℕ) : Type 0 where
-  pub rule : Rule
-  pub number_is : rule_number rule ≡ number
-  pub broken : ¬ Obeys c line ended rule
-  pub lesser : (q : Rule) → rule_number q < number → Obeys c line ended q
+abbrev pub IsLeastRuleBroken : Counts → List ℕ → Bool → ℕ → Type 0
+IsLeastRuleBroken c line ended =
+    IsLeastBroken Rule rule_number (Obeys c line ended) (λ rule. ¬ Obeys c line ended rule)

@@ -1,25 +1,18 @@
 -- The text of a script: its lines, and what stands in each.
-use Rattle.std.specs.Prelude.{◌≡◌, ℕ, ◌+◌, ◌-◌, ◌≤◌, nat_eq, cond, zero, suc, List, [], ◌∷◌, ◌++◌, length, map, codes}
+use Rattle.std.specs.Prelude.{◌≡◌, ℕ, ◌-◌, ◌≤◌, nat_eq, cond, List, [], ◌∷◌, ◌++◌, length, map, codes}
 use Rattle.std.specs.List.{flat_map}
-use Rattle.bd_base.specs.Bounds.{Bounds}
 use Rattle.bd_base.specs.declared.limits.TheConstants.{SCRIPT_SIZE}
 use Rattle.bd_base.specs.declared.script.Call.{Call}
 use Rattle.bd_base.specs.declared.script.Call.TheVariants.{Enter, Create, Read, Write, Truncate, Unlink, Size, Map, Close, RawRead, RawWrite}
-use Rattle.bd_base.specs.declared.script.How.{How}
-use Rattle.bd_base.specs.declared.script.How.TheVariants.{Plain, Direct}
 use Rattle.bd_base.specs.declared.script.Item.{Item}
-use Rattle.bd_base.specs.declared.script.Mode.{Mode}
-use Rattle.bd_base.specs.declared.script.Mode.TheVariants.{R, Rw}
 use Rattle.bd_base.specs.declared.script.Process.{Process}
 use Rattle.bd_base.specs.declared.script.ScheduleLine.{ScheduleLine}
 use Rattle.bd_base.specs.declared.script.Script.{Script}
-use Rattle.bd_blocks.specs.Runs.{decimal_text, runs_text}
-use Rattle.bd_script.specs.Scripts.{IsWithinLimits}
-
--- a number of any size in decimal digits, with no leading zero
-unfoldable pub number_text : ℕ → List ℕ
-number_text zero = codes "0"
-number_text (suc n) = decimal_text (suc n)
+use Rattle.bd_blocks.specs.Runs.{runs_text}
+use Rattle.bd_blocks.specs.Texts.{before, number_text}
+use Rattle.bd_blocks.specs.Words.{mode_and_how_text}
+use Rattle.bd_blocks.specs.declared.text.TheConstants.{LF, SPACE}
+use Rattle.bd_base.specs.Scripts.{IsWithinLimits}
 
 -- an item as it is written: an actor alone, or an actor and a number of turns
 pub data Written : Type 0 where
@@ -32,21 +25,9 @@ pub data Form : Type 0 where
   CallForm : (call : Call) → Form
   ScheduleForm : (items : List Written) → Form
 
-abbrev pub mode_text : Mode → List ℕ
-mode_text R = codes "r"
-mode_text Rw = codes "rw"
-
-abbrev pub how_text : How → List ℕ
-how_text Plain = codes "plain"
-how_text Direct = codes "direct"
-
--- a first field and what follows it
-abbrev pub before : List ℕ → List ℕ → List ℕ
-before field rest = field ++ 32 ∷ rest
-
 -- the line of a call
 abbrev pub call_text : Call → List ℕ
-call_text (Enter name mode how) = codes "open " ++ before name (before (mode_text mode) (how_text how))
+call_text (Enter name mode how) = codes "open " ++ before name (mode_and_how_text (mode, how))
 call_text (Create name perms) = codes "create " ++ before name (number_text perms)
 call_text (Read fd off len) = codes "read " ++ before (number_text fd) (before (number_text off) (number_text len))
 call_text (Write fd off bytes) = codes "write " ++ before (number_text fd) (before (number_text off) (runs_text bytes))
@@ -68,7 +49,7 @@ written_text (Times actor turns) = number_text actor ++ 42 ∷ number_text turns
 -- items after others: a space before each
 abbrev pub later_items : List Written → List ℕ
 later_items [] = []
-later_items (w ∷ ws) = 32 ∷ (written_text w ++ later_items ws)
+later_items (w ∷ ws) = SPACE ∷ (written_text w ++ later_items ws)
 
 -- items parted by one space
 abbrev pub items_text : List Written → List ℕ
@@ -84,11 +65,11 @@ form_text (ScheduleForm items) = codes "schedule " ++ items_text items
 -- lines, each ended by LF
 abbrev pub lines_text : List Form → List ℕ
 lines_text [] = []
-lines_text (f ∷ fs) = form_text f ++ 10 ∷ lines_text fs
+lines_text (f ∷ fs) = form_text f ++ LF ∷ lines_text fs
 
 -- how an item is written: one turn by its actor alone
-abbrev pub written : Item → Written
-written i = cond (nat_eq i.turns 1) (Alone i.actor) (Times i.actor i.turns)
+abbrev pub written_item : Item → Written
+written_item i = cond (nat_eq i.turns 1) (Alone i.actor) (Times i.actor i.turns)
 
 -- the line of a process, and those of its calls
 abbrev pub process_lines : Process → List Form
@@ -96,7 +77,7 @@ process_lines p = ProcForm p.uid ∷ map CallForm p.calls
 
 -- a schedule line
 abbrev pub schedule_line : ScheduleLine → Form
-schedule_line l = ScheduleForm (map written l.items)
+schedule_line l = ScheduleForm (map written_item l.items)
 
 -- the lines of a script after the first
 abbrev pub script_lines : Script → List Form
@@ -108,9 +89,13 @@ header = codes "bypassd-script 1"
 
 -- the text of a script
 abbrev pub script_text : Script → List ℕ
-script_text s = header ++ 10 ∷ lines_text (script_lines s)
+script_text s = header ++ LF ∷ lines_text (script_lines s)
 
 -- what a script holds is within the limits, and its text is not too long
 pub record IsScript (s : Script) : Type 0 where
   pub limits : IsWithinLimits s
   pub size : length (script_text s) ≤ SCRIPT_SIZE
+
+-- the text is that of a script
+abbrev pub IsScriptText : List ℕ → Type 0
+IsScriptText text = (s : Script) × IsScript s × (text ≡ script_text s)

@@ -1,17 +1,19 @@
 //! Reading the lines of calls: each function reads what follows the first word.
-ghost use Rattle.std.specs.Prelude.{◌≢◌, ◌++◌, ◌∷◌, IfOk, IfErr, codes};
+ghost use Rattle.std.specs.Prelude.{◌≢◌, ◌++◌, IfOk, IfErr, codes};
+ghost use Rattle.bd_blocks.specs.Texts.{before};
 ghost use Rattle.bd_script.specs.declared.words.Word.TheVariants.{Proc, Schedule};
 ghost use Rattle.bd_script.specs.Reading.{IsCallLine, RefusesLine};
 ghost use Rattle.bd_script.specs.Words.{word_text};
 
 use crate::fault::Fault;
-use crate::fields::{front_name, mode_and_how, name_and_number, numbers_and_bytes};
-use crate::limits::NAMED_FDS;
-use crate::numbers::{Within, one_number, three_numbers, two_numbers};
+use crate::fields::{name_and_number, numbers_and_bytes};
+use crate::numbers::{one_number, three_numbers, two_numbers};
 use crate::words::Word;
 use bd_base::{
-    ADDRESSES, BLOCK_SIZE, CALL_BYTES, Call, LAST_PLACE, List, PERMS, Range, Vba, is_name,
+    ADDRESSES, BLOCK_SIZE, CALL_BYTES, Call, LAST_PLACE, List, NAMED_FDS, PERMS, Range, Vba,
+    is_name,
 };
+use bd_blocks::text::{Within, front_name, read_mode_and_how};
 use std::alloc::Global;
 
 const FDS: Within = Within {
@@ -41,7 +43,7 @@ fn read_open(alloc: Global, rest: &[u8]) -> Result<Call, Fault>
     let Some((name, rest)) = front_name(rest) else {
         return Err(Fault::Form);
     };
-    let Some((mode, how)) = mode_and_how(rest) else {
+    let Some((mode, how)) = read_mode_and_how(rest) else {
         return Err(Fault::Form);
     };
     let name = List::from_slice(alloc, name)?;
@@ -72,11 +74,11 @@ fn read_read(rest: &[u8]) -> Result<Call, Fault>
         least: 1,
         most: CALL_BYTES,
     };
-    let (fd, off, len) = three_numbers(rest, FDS, PLACES, lengths)?;
+    let numbers = three_numbers(rest, FDS, PLACES, lengths)?;
     Ok(Call::Read {
-        fd: fd as u8,
-        off,
-        len: len as u16,
+        fd: numbers.first as u8,
+        off: numbers.second,
+        len: numbers.third as u16,
     })
 }
 
@@ -84,11 +86,11 @@ fn read_write(alloc: Global, rest: &[u8]) -> Result<Call, Fault>
     ensures ok { IfOk result (IsCallLine (codes "write " ++ rest.now)) }
     ensures refused { IfErr result (RefusesLine (codes "write " ++ rest.now)) }
 {
-    let (fd, off, bytes) = numbers_and_bytes(alloc, rest, FDS, PLACES, CALL_BYTES as usize)?;
+    let placed = numbers_and_bytes(alloc, rest, FDS, PLACES, CALL_BYTES as usize)?;
     Ok(Call::Write {
-        fd: fd as u8,
-        off,
-        bytes,
+        fd: placed.first as u8,
+        off: placed.second,
+        bytes: placed.bytes,
     })
 }
 
@@ -143,11 +145,11 @@ fn read_raw_read(rest: &[u8]) -> Result<Call, Fault>
         least: 1,
         most: BLOCK_SIZE,
     };
-    let (vba, lo, len) = three_numbers(rest, BLOCK_ADDRESSES, BLOCK_PLACES, lengths)?;
-    let Some(vba) = Vba::new(vba) else {
+    let numbers = three_numbers(rest, BLOCK_ADDRESSES, BLOCK_PLACES, lengths)?;
+    let Some(vba) = Vba::new(numbers.first) else {
         return Err(Fault::Range);
     };
-    let Some(range) = Range::new(lo, lo + len) else {
+    let Some(range) = Range::new(numbers.second, numbers.second + numbers.third) else {
         return Err(Fault::Range);
     };
     Ok(Call::RawRead { vba, range })
@@ -157,23 +159,23 @@ fn read_raw_write(alloc: Global, rest: &[u8]) -> Result<Call, Fault>
     ensures ok { IfOk result (IsCallLine (codes "raw-write " ++ rest.now)) }
     ensures refused { IfErr result (RefusesLine (codes "raw-write " ++ rest.now)) }
 {
-    let (vba, lo, bytes) = numbers_and_bytes(
+    let placed = numbers_and_bytes(
         alloc,
         rest,
         BLOCK_ADDRESSES,
         BLOCK_PLACES,
         BLOCK_SIZE as usize,
     )?;
-    let Some(vba) = Vba::new(vba) else {
+    let Some(vba) = Vba::new(placed.first) else {
         return Err(Fault::Range);
     };
-    if lo as usize + bytes.len() > BLOCK_SIZE as usize {
+    if placed.second as usize + placed.bytes.len() > BLOCK_SIZE as usize {
         return Err(Fault::Range);
     }
     Ok(Call::RawWrite {
         vba,
-        lo: lo as u16,
-        bytes,
+        lo: placed.second as u16,
+        bytes: placed.bytes,
     })
 }
 
@@ -181,8 +183,8 @@ fn read_raw_write(alloc: Global, rest: &[u8]) -> Result<Call, Fault>
 pub fn read_call(alloc: Global, word: Word, rest: &[u8]) -> Result<Call, Fault>
     requires not_process { word ≢ Proc }
     requires not_schedule { word ≢ Schedule }
-    ensures ok { IfOk result (IsCallLine (word_text word ++ 32 ∷ rest.now)) }
-    ensures refused { IfErr result (RefusesLine (word_text word ++ 32 ∷ rest.now)) }
+    ensures ok { IfOk result (IsCallLine (before (word_text word) rest.now)) }
+    ensures refused { IfErr result (RefusesLine (before (word_text word) rest.now)) }
 {
     match word {
         Word::Open => read_open(alloc, rest),

@@ -1,26 +1,25 @@
 //! A script that is made line by line.
 ghost use Rattle.std.specs.Prelude.{◌≡◌, ℕ, ◌<◌, ◌≤◌, ◌++◌, ◌∷◌, [], length, IfOk, IfErr, All};
 ghost use Rattle.std.specs.Option.{option_to_list};
-ghost use Rattle.bd_base.specs.declared.limits.TheConstants.{PROCESSES};
-ghost use Rattle.bd_script.specs.declared.limits.TheConstants.{USERS};
-ghost use Rattle.bd_script.specs.Drafts.{AreKeptOf, IsDraft, IsMore, RefusesForm, script_of};
+ghost use Rattle.bd_base.specs.declared.limits.TheConstants.{PROCESSES, USERS};
+ghost use Rattle.bd_script.specs.Drafts.{AreKeptOf, HasMore, IsReadForm, RefusesForm, RefusesForms, TakesForm};
 ghost use Rattle.bd_script.specs.Lines.{IsReadLine, Stands};
 ghost use Rattle.bd_script.specs.Rules.{IsForm, IsInRange};
-ghost use Rattle.bd_script.specs.Scripts.{IsCall};
+ghost use Rattle.bd_base.specs.Scripts.{IsCall, IsWithinLimits};
 ghost use Rattle.bd_script.specs.Texts.{Form, ProcForm, CallForm};
 
 use crate::fault::Fault;
-use crate::limits::{ITEMS, SCHEDULES, TURNS};
 use crate::lines::Line;
-use crate::schedules::{Turns, items, turns_left};
+use crate::schedules::{Turns, items_of, turns_left};
 use bd_base::{
-    CALLS, Call, List, OutOfMemory, PROCESSES, Process, ProcessList, ScheduleLine, ScheduleList,
-    Script,
+    CALLS, Call, ITEMS, List, OutOfMemory, PROCESSES, Process, ProcessList, SCHEDULES,
+    ScheduleLine, ScheduleList, Script, TURNS,
 };
 use std::alloc::Global;
+use std::marker::Model;
 
 // The processes, with the last one.
-fn joined(processes: ProcessList, last: Option<Process>) -> Result<ProcessList, OutOfMemory>
+fn all_processes(processes: ProcessList, last: Option<Process>) -> Result<ProcessList, OutOfMemory>
     ensures { IfOk result (λ all. all ≡ processes ++ option_to_list last) }
 {
     let mut processes = processes;
@@ -30,7 +29,7 @@ fn joined(processes: ProcessList, last: Option<Process>) -> Result<ProcessList, 
     Ok(processes)
 }
 
-/// A script so far.
+/// A script so far. Contracts see it as a script, which is within the limits.
 #[derive(Debug, Drop)]
 pub struct Draft {
     processes: ProcessList,
@@ -41,11 +40,22 @@ pub struct Draft {
     left: u64,
 }
 
+impl Model for Draft {
+    ghost use Rattle.bd_base.specs.declared.script.Script.{Script};
+    ghost use Rattle.bd_script.specs.Drafts.{IsDraft, parts, script_of};
+
+    ghost Value = { Script };
+
+    ghost view = { λ d. script_of (parts d.processes d.last d.schedule d.left) };
+
+    ghost invariant = { λ d. IsDraft (parts d.processes d.last d.schedule d.left) };
+}
+
 impl Draft {
     /// A script of no process.
     pub fn new(alloc: Global) -> Draft
-        ensures draft { IsDraft result }
-        ensures empty { script_of result ≡ record { processes = []; schedule = [] } }
+        ensures empty { result ≡ record { processes = []; schedule = [] } }
+        ensures limits { IsWithinLimits result }
     {
         Draft {
             processes: List::new(alloc),
@@ -57,8 +67,7 @@ impl Draft {
 
     // How many processes there are.
     fn process_count(&self) -> u64
-        requires { IsDraft self.now }
-        ensures count { result ≡ length (script_of self.now).processes }
+        ensures count { result ≡ length self.now.processes }
         ensures most { result ≤ PROCESSES }
     {
         match &self.last {
@@ -69,8 +78,7 @@ impl Draft {
 
     // Adds a process.
     fn with_process(self, alloc: Global, uid: u32) -> Result<Draft, Fault>
-        requires { IsDraft self }
-        ensures ok { IfOk result (IsMore self (ProcForm uid)) }
+        ensures ok { IfOk result (HasMore self (ProcForm uid)) }
         ensures refused { IfErr result (RefusesForm self (ProcForm uid)) }
     {
         if !self.schedule.is_empty() {
@@ -85,7 +93,7 @@ impl Draft {
             schedule,
             left,
         } = self;
-        let processes = joined(processes, last)?;
+        let processes = all_processes(processes, last)?;
         let last = Process {
             uid,
             calls: List::new(alloc),
@@ -100,9 +108,8 @@ impl Draft {
 
     // Adds a call to the last process.
     fn with_call(self, call: Call) -> Result<Draft, Fault>
-        requires draft { IsDraft self }
-        requires call { IsCall call }
-        ensures ok { IfOk result (IsMore self (CallForm call)) }
+        requires { IsCall call }
+        ensures ok { IfOk result (HasMore self (CallForm call)) }
         ensures refused { IfErr result (RefusesForm self (CallForm call)) }
     {
         let Draft {
@@ -132,9 +139,9 @@ impl Draft {
 
     // Adds a schedule line.
     fn with_items(self, alloc: Global, kept: &[Turns]) -> Result<Draft, Fault>
-        requires draft { IsDraft self }
-        ensures ok { IfOk result (λ new. (form : Form) → IsForm form → IsInRange form → AreKeptOf form kept.now → IsMore self form new) }
-        ensures refused { IfErr result (λ fault. (form : Form) → IsForm form → IsInRange form → AreKeptOf form kept.now → RefusesForm self form fault) }
+        requires { IsReadForm (AreKeptOf kept.now) }
+        ensures ok { IfOk result (TakesForm (AreKeptOf kept.now) self) }
+        ensures refused { IfErr result (RefusesForms (AreKeptOf kept.now) self) }
     {
         if self.schedule.len() >= SCHEDULES as usize {
             return Err(Fault::Place);
@@ -145,7 +152,7 @@ impl Draft {
         let Some(left) = turns_left(kept, self.left) else {
             return Err(Fault::Place);
         };
-        let items = items(alloc, kept, 2 * self.process_count())?;
+        let items = items_of(alloc, kept, 2 * self.process_count())?;
         let mut schedule = self.schedule;
         schedule.push(ScheduleLine { items })?;
         Ok(Draft {
@@ -158,10 +165,9 @@ impl Draft {
 
     /// Adds what a line says.
     pub fn with_line(self, alloc: Global, line: Line) -> Result<Draft, Fault>
-        requires draft { IsDraft self }
-        requires read { (form : Form) × IsForm form × IsInRange form × Stands line form }
-        ensures ok { IfOk result (λ new. (form : Form) → IsForm form → IsInRange form → Stands line form → IsMore self form new) }
-        ensures refused { IfErr result (λ fault. (form : Form) → IsForm form → IsInRange form → Stands line form → RefusesForm self form fault) }
+        requires { IsReadForm (Stands line) }
+        ensures ok { IfOk result (TakesForm (Stands line) self) }
+        ensures refused { IfErr result (RefusesForms (Stands line) self) }
     {
         match line {
             Line::Proc(uid) => self.with_process(alloc, uid),
@@ -172,8 +178,8 @@ impl Draft {
 
     /// The whole script.
     pub fn finish(self) -> Result<Script, OutOfMemory>
-        requires { IsDraft self }
-        ensures { IfOk result (λ script. script ≡ script_of self) }
+        ensures script { IfOk result (λ script. script ≡ self) }
+        ensures limits { IfOk result IsWithinLimits }
     {
         let Draft {
             processes,
@@ -182,7 +188,7 @@ impl Draft {
             left: _,
         } = self;
         Ok(Script {
-            processes: joined(processes, last)?,
+            processes: all_processes(processes, last)?,
             schedule,
         })
     }

@@ -7,7 +7,6 @@ mod error;
 mod fault;
 mod fields;
 mod laws;
-mod limits;
 mod lines;
 mod numbers;
 mod printer;
@@ -15,9 +14,12 @@ mod reader;
 mod schedules;
 mod words;
 
+pub use bd_base::{
+    Call, CallList, How, Item, ItemList, Mode, Process, ProcessList, ScheduleLine, ScheduleList,
+    Script,
+};
 pub use error::ScriptError;
-pub use laws::{numbers_are_decimal, one_refusal, one_script, refused_is_no_script};
-pub use limits::{ITEMS, NAMED_FDS, SCHEDULES, TURNS, USERS};
+pub use laws::{one_refusal, one_script, printed_is_read, read_is_printed, refused_is_no_script};
 pub use printer::print_script;
 pub use reader::read_script;
 

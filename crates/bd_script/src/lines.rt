@@ -5,12 +5,11 @@ ghost use Rattle.bd_script.specs.Reading.{RefusesLine};
 
 use crate::calls::read_call;
 use crate::fault::Fault;
-use crate::fields::split_at_byte;
-use crate::limits::USERS;
-use crate::numbers::{Within, one_number};
+use crate::numbers::one_number;
 use crate::schedules::{Turns, read_items};
 use crate::words::{Word, read_word};
-use bd_base::Call;
+use bd_base::{Call, USERS};
+use bd_blocks::text::{SPACE, Within, split_at_byte};
 use std::alloc::Global;
 
 /// What a line says.
@@ -29,7 +28,7 @@ pub fn read_line(alloc: Global, text: &[u8]) -> Result<Line, Fault>
     ensures ok { IfOk result (IsReadLine text.now) }
     ensures refused { IfErr result (RefusesLine text.now) }
 {
-    let Some((first, rest)) = split_at_byte(text, b' ') else {
+    let Some((first, rest)) = split_at_byte(text, SPACE) else {
         return Err(Fault::Form);
     };
     let Some(word) = read_word(first) else {

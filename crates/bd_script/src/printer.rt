@@ -1,49 +1,53 @@
 //! Writing a script as text.
 ghost use Rattle.std.specs.Prelude.{◌≡◌, ◌++◌, ◌∷◌, [], IfOk, OnOk, map};
-ghost use Rattle.bd_script.specs.Texts.{form_text, items_text, lines_text, process_lines, schedule_line, script_text, written, written_text};
+ghost use Rattle.bd_blocks.specs.declared.text.TheConstants.{LF};
+ghost use Rattle.bd_script.specs.Texts.{form_text, items_text, lines_text, process_lines, schedule_line, script_text, written_text, written_item};
 
 mod calls;
-mod fields;
 
 use crate::printer::calls::push_call;
-use crate::printer::fields::{push, push_number, push_one};
 use bd_base::{Bytes, Item, List, OutOfMemory, Process, ScheduleLine, Script};
+use bd_blocks::text::{LF, SPACE, push_bytes, push_number};
 use std::alloc::Global;
 
 // Appends the lines of a process.
 fn push_process(text: &mut Vec<u8>, process: &Process) -> Result<(), OutOfMemory>
-    ensures { OnOk result (text.new.items ≡ text.old.items ++ lines_text (process_lines process.now)) }
+    ensures { OnOk result
+        (text.new.items ≡ text.old.items ++ lines_text (process_lines process.now)) }
 {
-    push_one(text, b"proc ".as_slice(), u64::from(process.uid))?;
-    text.push(b'\n')?;
+    push_bytes(text, b"proc ")?;
+    push_number(text, u64::from(process.uid))?;
+    text.push(LF)?;
     for call in process.calls.as_slice() {
         push_call(text, call)?;
-        text.push(b'\n')?;
+        text.push(LF)?;
     }
     Ok(())
 }
 
 // Appends an item.
 fn push_item(text: &mut Vec<u8>, item: Item) -> Result<(), OutOfMemory>
-    ensures { OnOk result (text.new.items ≡ text.old.items ++ written_text (written item)) }
+    ensures { OnOk result (text.new.items ≡ text.old.items ++ written_text (written_item item)) }
 {
     push_number(text, item.actor.get())?;
     if item.turns != 1 {
-        push_one(text, b"*".as_slice(), u64::from(item.turns))?;
+        text.push(b'*')?;
+        push_number(text, u64::from(item.turns))?;
     }
     Ok(())
 }
 
 // Appends items, parted by one space.
 fn push_items(text: &mut Vec<u8>, items: &[Item]) -> Result<(), OutOfMemory>
-    ensures { OnOk result (text.new.items ≡ text.old.items ++ items_text (map written items.now)) }
+    ensures { OnOk result
+        (text.new.items ≡ text.old.items ++ items_text (map written_item items.now)) }
 {
     let Some((first, later)) = items.split_first() else {
         return Ok(());
     };
     push_item(text, *first)?;
     for item in later {
-        text.push(b' ')?;
+        text.push(SPACE)?;
         push_item(text, *item)?;
     }
     Ok(())
@@ -51,11 +55,12 @@ fn push_items(text: &mut Vec<u8>, items: &[Item]) -> Result<(), OutOfMemory>
 
 // Appends a schedule line.
 fn push_schedule(text: &mut Vec<u8>, line: &ScheduleLine) -> Result<(), OutOfMemory>
-    ensures { OnOk result (text.new.items ≡ text.old.items ++ (form_text (schedule_line line.now) ++ 10 ∷ [])) }
+    ensures { OnOk result
+        (text.new.items ≡ text.old.items ++ (form_text (schedule_line line.now) ++ LF ∷ [])) }
 {
-    push(text, b"schedule ".as_slice())?;
+    push_bytes(text, b"schedule ")?;
     push_items(text, line.items.as_slice())?;
-    text.push(b'\n')?;
+    text.push(LF)?;
     Ok(())
 }
 
@@ -64,7 +69,7 @@ pub fn print_script(alloc: Global, script: &Script) -> Result<Bytes, OutOfMemory
     ensures { IfOk result (λ text. text ≡ script_text script.now) }
 {
     let mut text = Vec::new(alloc);
-    push(&mut text, b"bypassd-script 1\n".as_slice())?;
+    push_bytes(&mut text, b"bypassd-script 1\n")?;
     for process in script.processes.as_slice() {
         push_process(&mut text, process)?;
     }

@@ -1,18 +1,18 @@
 //! Reading a text into a script.
-ghost use Rattle.std.specs.Prelude.{◌≡◌, ◌≤◌, ◌++◌, ◌∷◌, length, IfOk, IfErr, IsTrue, ◌↔◌, MatchOption};
+ghost use Rattle.std.specs.Prelude.{◌≡◌, ◌≤◌, ◌++◌, ◌∷◌, length, IfOk, IfErr, IsOkUnless, IsTrue, ◌↔◌, MatchOption};
 ghost use Rattle.bd_base.specs.declared.limits.TheConstants.{SCRIPT_SIZE};
+ghost use Rattle.bd_blocks.specs.declared.text.TheConstants.{LF};
 ghost use Rattle.bd_script.specs.declared.error.ScriptError.TheVariants.{BadScript, OutOfMemory};
-ghost use Rattle.bd_script.specs.Drafts.{IsDraft};
 ghost use Rattle.bd_script.specs.Reading.{fault_rule};
-ghost use Rattle.bd_script.specs.Refused.{IsRefused, IsTaken, RefusesNext};
-ghost use Rattle.bd_script.specs.Texts.{IsScript, header, script_text};
+ghost use Rattle.bd_script.specs.Refused.{RefusesNext, RefusesScript, TakesLine, TellsBadScript};
+ghost use Rattle.bd_script.specs.Texts.{IsScript, IsScriptText, header, script_text};
 
 use crate::draft::Draft;
 use crate::error::ScriptError;
 use crate::fault::Fault;
-use crate::fields::split_at_byte;
 use crate::lines::read_line;
 use bd_base::{SCRIPT_SIZE, Script};
+use bd_blocks::text::{LF, split_at_byte};
 use std::alloc::Global;
 
 // Whether a line is the first of a script.
@@ -24,8 +24,7 @@ fn is_header(line: &[u8]) -> bool
 
 // The draft with one line more.
 fn take_line(alloc: Global, draft: Draft, text: &[u8]) -> Result<Draft, Fault>
-    requires { IsDraft draft }
-    ensures ok { IfOk result (IsTaken draft text.now) }
+    ensures ok { IfOk result (TakesLine draft text.now) }
     ensures refused { IfErr result (RefusesNext draft text.now) }
 {
     let line = read_line(alloc, text)?;
@@ -34,7 +33,8 @@ fn take_line(alloc: Global, draft: Draft, text: &[u8]) -> Result<Draft, Fault>
 
 // The refusal of a line.
 fn refusal(line: u64, fault: Fault) -> ScriptError
-    ensures { MatchOption (fault_rule fault) (result ≡ OutOfMemory) (λ rule. result ≡ BadScript line rule) }
+    ensures { MatchOption (fault_rule fault)
+        (result ≡ OutOfMemory) (λ rule. result ≡ BadScript line rule) }
 {
     match fault.rule() {
         Some(rule) => ScriptError::BadScript { line, rule },
@@ -44,15 +44,16 @@ fn refusal(line: u64, fault: Fault) -> ScriptError
 
 // Reads the lines after the first.
 fn read_lines(alloc: Global, text: &[u8]) -> Result<Script, ScriptError>
-    requires { length (header ++ 10 ∷ text.now) ≤ SCRIPT_SIZE }
-    ensures ok { IfOk result (λ script. IsScript script × (header ++ 10 ∷ text.now ≡ script_text script)) }
-    ensures refused { IfErr result (IsRefused (header ++ 10 ∷ text.now)) }
+    requires { length (header ++ LF ∷ text.now) ≤ SCRIPT_SIZE }
+    ensures script { IfOk result IsScript }
+    ensures text { IfOk result (λ script. header ++ LF ∷ text.now ≡ script_text script) }
+    ensures refused { IfErr result (RefusesScript (header ++ LF ∷ text.now)) }
 {
     let mut draft = Draft::new(alloc);
     let mut number = 2;
     let mut rest = text;
     while !rest.is_empty() {
-        let Some((line, next)) = split_at_byte(rest, b'\n') else {
+        let Some((line, next)) = split_at_byte(rest, LF) else {
             return Err(ScriptError::BadScript {
                 line: number,
                 rule: 3,
@@ -68,18 +69,16 @@ fn read_lines(alloc: Global, text: &[u8]) -> Result<Script, ScriptError>
     Ok(draft.finish()?)
 }
 
-/// Reads a script.
-///
-/// `BadScript` tells the first bad line, from 1 on, and the least rule that it breaks; line 0 and
-/// rule 1 where the text is too long.
-pub fn read_script(alloc: Global, bytes: &[u8]) -> Result<Script, ScriptError>
-    ensures ok { IfOk result (λ script. IsScript script × (bytes.now ≡ script_text script)) }
-    ensures refused { IfErr result (IsRefused bytes.now) }
+// Reads a script.
+fn read_text(alloc: Global, bytes: &[u8]) -> Result<Script, ScriptError>
+    ensures script { IfOk result IsScript }
+    ensures text { IfOk result (λ script. bytes.now ≡ script_text script) }
+    ensures refused { IfErr result (RefusesScript bytes.now) }
 {
     if bytes.len() > SCRIPT_SIZE as usize {
         return Err(ScriptError::BadScript { line: 0, rule: 1 });
     }
-    let Some((first, rest)) = split_at_byte(bytes, b'\n') else {
+    let Some((first, rest)) = split_at_byte(bytes, LF) else {
         let rule = if is_header(bytes) { 3 } else { 2 };
         return Err(ScriptError::BadScript { line: 1, rule });
     };
@@ -87,4 +86,21 @@ pub fn read_script(alloc: Global, bytes: &[u8]) -> Result<Script, ScriptError>
         return Err(ScriptError::BadScript { line: 1, rule: 2 });
     }
     read_lines(alloc, rest)
+}
+
+/// Reads a script.
+///
+/// Unless no memory is found, `BadScript` comes exactly where the text is that of no script. It tells
+/// the first bad line, from 1 on, and the least rule that it breaks; line 0 and rule 1 where the text
+/// is too long.
+pub fn read_script(alloc: Global, bytes: &[u8]) -> Result<Script, ScriptError>
+    ensures script { IfOk result IsScript }
+    ensures text { IfOk result (λ script. bytes.now ≡ script_text script) }
+    ensures refused { IfErr result (RefusesScript bytes.now) }
+
+    // The other way round.
+    ensures reads { IsScriptText bytes.now → IsOkUnless result ScriptError.OutOfMemory }
+    ensures refuses { TellsBadScript bytes.now result }
+{
+    read_text(alloc, bytes)
 }

@@ -1,17 +1,14 @@
 //! Reading the items of a schedule line.
-ghost use Rattle.std.specs.Prelude.{◌≡◌, ◌≢◌, ℕ, ◌+◌, ◌-◌, ◌^◌, ◌<◌, ◌≤◌, ◌++◌, ◌∷◌, [], List, length, map, take, min, All, MatchOption, IfSome, IfOk, IfErr};
+ghost use Rattle.std.specs.Prelude.{◌≡◌, ◌≢◌, ℕ, ◌+◌, ◌<◌, ◌≤◌, map, All, MatchOption, IfSome, IfNone, IfOk, IfErr, OnOk};
 ghost use Rattle.bd_base.specs.declared.limits.TheConstants.{ACTORS};
-ghost use Rattle.bd_script.specs.declared.limits.TheConstants.{ITEMS, TURNS};
+ghost use Rattle.bd_blocks.specs.Texts.{IsNoNumber, IsNumber, number_text};
 ghost use Rattle.bd_script.specs.declared.schedules.Turns.{Turns};
-ghost use Rattle.bd_script.specs.Rules.{HasTurns, actor_of};
-ghost use Rattle.bd_script.specs.Schedules.{AreKept, AreTurns, IsActorFault, IsItemFault, RefusesItems, item_of, kept_of, kept_turns};
-ghost use Rattle.bd_script.specs.Texts.{Written, items_text, number_text, written_text};
+ghost use Rattle.bd_script.specs.Schedules.{AreItemsRead, AreTurns, IsCapped, IsItemRead, RefusesActors, RefusesItem, RefusesItems, TakesScheduleItem, item_of, kept_turns};
+ghost use Rattle.bd_script.specs.Texts.{Times, Written, written_text};
 
 use crate::fault::Fault;
-use crate::fields::split_at_byte;
-use crate::limits::{ITEMS, TURNS};
-use crate::numbers::{Within, in_range, read_number};
-use bd_base::{Actor, Item, ItemList, List};
+use bd_base::{Actor, ITEMS, Item, ItemList, List, TURNS};
+use bd_blocks::text::{Number, SPACE, Within, read_number, split_at_byte};
 use std::alloc::Global;
 
 /// An actor, or the greatest number where it is greater than that, and its turns.
@@ -36,64 +33,55 @@ struct ItemRead {
 }
 
 // The actor that a text is, or the greatest number where it is greater than that.
-fn actor(text: &[u8]) -> Option<u64>
-    ensures { MatchOption result ((n : ℕ) → text.now ≢ number_text n) (λ a. (n : ℕ) × (a ≡ min n (2 ^ 64 - 1)) × (text.now ≡ number_text n)) }
+fn read_actor(text: &[u8]) -> Option<u64>
+    ensures some { IfSome result (λ a. (n : ℕ) × IsCapped n a × (text.now ≡ number_text n)) }
+    ensures none { IfNone result (IsNoNumber text.now) }
 {
-    let Some(n) = read_number(text) else {
-        return None;
+    match read_number(text)? {
+        Number::Small(actor) => Some(actor),
+        Number::Large => Some(u64::MAX),
+    }
+}
+
+// The turns that a number is, None where it is out of their range.
+fn turns_within(number: Number) -> Option<u32>
+    ensures { (actor turns : ℕ) → IsNumber number turns → AreTurns result (Times actor turns) }
+{
+    let range = Within {
+        least: 2,
+        most: TURNS,
     };
-    Some(n.value.unwrap_or(u64::MAX))
+    match number.within(range) {
+        Some(turns) => Some(turns as u32),
+        None => None,
+    }
 }
 
 // Reads an item: `A` or `A*N`.
-fn item(text: &[u8]) -> Option<ItemRead>
-    ensures { MatchOption result ((w : Written) → text.now ≢ written_text w) (λ r. (w : Written) × (text.now ≡ written_text w) × (r.actor ≡ min (actor_of w) (2 ^ 64 - 1)) × AreTurns r.turns w) }
+fn read_item(text: &[u8]) -> Option<ItemRead>
+    ensures some { IfSome result (λ item. IsItemRead text.now item.actor item.turns) }
+    ensures none { IfNone result ((w : Written) → text.now ≢ written_text w) }
 {
     let Some((first, second)) = split_at_byte(text, b'*') else {
-        let Some(actor) = actor(text) else {
-            return None;
-        };
         return Some(ItemRead {
-            actor,
+            actor: read_actor(text)?,
             turns: Some(1),
         });
     };
-    let Some(actor) = actor(first) else {
-        return None;
-    };
-    let Some(turns) = read_number(second) else {
-        return None;
-    };
-    let turns = in_range(
-        turns,
-        Within {
-            least: 2,
-            most: TURNS,
-        },
-    );
+    let actor = read_actor(first)?;
+    let turns = read_number(second)?;
     Some(ItemRead {
         actor,
-        turns: narrow(turns),
+        turns: turns_within(turns),
     })
-}
-
-// Turns in their range, as a number of 32 bits.
-fn narrow(turns: Option<u64>) -> Option<u32>
-    requires { IfSome turns (λ t. t ≤ TURNS) }
-    ensures { result ≡ turns }
-{
-    match turns {
-        None => None,
-        Some(turns) => Some(turns as u32),
-    }
 }
 
 // Reads one item, and keeps it where there is room.
 fn take_item(scan: Scan, text: &[u8]) -> Result<Scan, Fault>
-    ensures ok { IfOk result (λ new. (w : Written) × (text.now ≡ written_text w) × ((done : List Written) → AreKept scan.in_range scan.kept.items done → AreKept new.in_range new.kept.items (done ++ w ∷ []))) }
-    ensures refused { IfErr result (IsItemFault text.now) }
+    ensures ok { IfOk result (TakesScheduleItem scan text.now) }
+    ensures refused { IfErr result (RefusesItem text.now) }
 {
-    let Some(read) = item(text) else {
+    let Some(read) = read_item(text) else {
         return Err(Fault::Form);
     };
     let Some(turns) = read.turns else {
@@ -118,7 +106,7 @@ fn take_item(scan: Scan, text: &[u8]) -> Result<Scan, Fault>
 
 /// Reads what follows the first word of a schedule line.
 pub fn read_items(alloc: Global, text: &[u8]) -> Result<Vec<Turns>, Fault>
-    ensures ok { IfOk result (λ kept. (items : List Written) × (1 ≤ length items) × (text.now ≡ items_text items) × All HasTurns items × (kept.items ≡ map kept_of (take (ITEMS + 1) items))) }
+    ensures ok { IfOk result (λ kept. AreItemsRead text.now kept.items) }
     ensures refused { IfErr result (RefusesItems text.now) }
 {
     let mut scan = Scan {
@@ -126,7 +114,7 @@ pub fn read_items(alloc: Global, text: &[u8]) -> Result<Vec<Turns>, Fault>
         kept: Vec::new(alloc),
     };
     let mut rest = text;
-    while let Some((field, next)) = split_at_byte(rest, b' ') {
+    while let Some((field, next)) = split_at_byte(rest, SPACE) {
         scan = take_item(scan, field)?;
         rest = next;
     }
@@ -139,7 +127,8 @@ pub fn read_items(alloc: Global, text: &[u8]) -> Result<Vec<Turns>, Fault>
 
 /// What is left of so many turns: None where the items have more.
 pub fn turns_left(kept: &[Turns], left: u64) -> Option<u64>
-    ensures { MatchOption result (left < kept_turns kept.now) (λ l. l + kept_turns kept.now ≡ left) }
+    ensures { MatchOption result
+        (left < kept_turns kept.now) (λ l. l + kept_turns kept.now ≡ left) }
 {
     let mut left = left;
     for item in kept {
@@ -152,10 +141,11 @@ pub fn turns_left(kept: &[Turns], left: u64) -> Option<u64>
 }
 
 /// The items of actors up to `last`.
-pub fn items(alloc: Global, kept: &[Turns], last: u64) -> Result<ItemList, Fault>
+pub fn items_of(alloc: Global, kept: &[Turns], last: u64) -> Result<ItemList, Fault>
     requires { last < ACTORS }
-    ensures ok { IfOk result (λ items. (items ≡ map item_of kept.now) × All (λ (t : Turns). t.actor ≤ last) kept.now) }
-    ensures refused { IfErr result (IsActorFault kept.now last) }
+    ensures items { IfOk result (λ items. items ≡ map item_of kept.now) }
+    ensures actors { OnOk result (All (λ (t : Turns). t.actor ≤ last) kept.now) }
+    ensures refused { IfErr result (RefusesActors kept.now last) }
 {
     let mut items = List::with_capacity(alloc, kept.len())?;
     for turns in kept {

@@ -1,5 +1,5 @@
 //! The first words of lines.
-ghost use Rattle.std.specs.Prelude.{◌≡◌, ◌≢◌, MatchOption};
+ghost use Rattle.std.specs.Prelude.{◌≡◌, ◌≢◌, IfSome, IfNone};
 ghost use Rattle.bd_script.specs.declared.words.Word.{Word};
 ghost use Rattle.bd_script.specs.Words.{word_text};
 
@@ -23,7 +23,8 @@ pub enum Word {
 
 /// The word that a text is.
 pub fn read_word(text: &[u8]) -> Option<Word>
-    ensures { MatchOption result ((w : Word) → text.now ≢ word_text w) (λ w. text.now ≡ word_text w) }
+    ensures some { IfSome result (λ w. text.now ≡ word_text w) }
+    ensures none { IfNone result ((w : Word) → text.now ≢ word_text w) }
 {
     match text {
         b"proc" => Some(Word::Proc),

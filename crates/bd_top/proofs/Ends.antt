@@ -1,32 +1,23 @@
--- What the end of a command means tells when it comes.
-use Rattle.std.proofs.Common.{◌≡◌, ℕ, List, [], Option, Some, refl, sym, subst, inl, inr}
+-- To which end the inputs of a command lead, told from what stands behind the end.
+use Rattle.std.proofs.Common.{◌≡◌, ◌⊎◌, ℕ, ◌+◌, ◌<◌, List, Some, length, refl, sym, ap, ◌∙◌, subst, inl, inr, arith}
+use Rattle.bd_base.specs.declared.limits.TheConstants.{IMAGE_SIZE, SCRIPT_SIZE}
+use Rattle.bd_base.specs.declared.script.Script.{Script}
 use Rattle.bd_base.specs.declared.volume.Volume.{Volume}
 use Rattle.bd_image.specs.Rules.{Accepted, Broken}
 use Rattle.bd_image.specs.Volumes.{volume_of}
 use Rattle.bd_machine.specs.Refusals.{IsNotSimple}
 use Rattle.bd_machine.specs.Simple.{IsSimpleText}
+use Rattle.bd_outside.specs.Around.{Left, ReadPast, Reading, Writing}
+use Rattle.bd_outside.proofs.Steps.{taken-le}
 use Rattle.bd_top.specs.declared.status.Outcome.{Outcome}
 use Rattle.bd_top.specs.declared.status.Status.{Status}
 use Rattle.bd_top.specs.declared.status.Status.TheVariants.{Done, Usage, ReadFault, WriteFault, BadImage, BadScript, OutOfMemory}
-use Rattle.bd_top.specs.declared.status.To.TheVariants.{Out, Disk}
-use Rattle.bd_top.specs.declared.status.Which.TheVariants.{Image, Script as Script_}
-use Rattle.bd_top.specs.Causes.{CanCheck, CanReplay, CheckEnd, IsDone, NothingDone, RefusesImage, RefusesScript, ReplayEnd}
-use Rattle.bd_top.specs.Outside.{ForTold, Reading, Writing, WroteNothing}
-use Rattle.bd_top.specs.Runs.{IsBadImage, IsImageRead, IsReplay}
-use Rattle.bd_top.specs.Steps.{ImageRefusal, LineWritten, ReplayRefusal, RunWritten}
-use Rattle.bd_top.specs.Totals.{check_line}
-
--- ---- from the end to when it comes
-
-told : (left : Option (List ℕ)) (b : List ℕ) (P : List ℕ → Type 0) → left ≡ Some b → ForTold left P → P b
-told left b P is fact = let there : ForTold (Some b) P = subst (λ l. ForTold l P) is fact in there
-
--- what was read of bytes that were told
-image_told : (i : Reading) (v : Volume) (b : List ℕ) → i.left ≡ Some b → IsImageRead i v → Accepted b
-image_told i v b left read = (told i.left b (λ bytes. Accepted bytes × (v ≡ volume_of bytes) × (i.remains ≡ Some [])) left read.1).0
-
-volume_told : (i : Reading) (v : Volume) (b : List ℕ) → i.left ≡ Some b → IsImageRead i v → v ≡ volume_of b
-volume_told i v b left read = (told i.left b (λ bytes. Accepted bytes × (v ≡ volume_of bytes) × (i.remains ≡ Some [])) left read.1).1
+use Rattle.bd_top.specs.Ends.{Around, CheckEnd, Decide, IsFault, LeadCheckTo, LeadReplayTo, LineWritten, ReplayEnd, RunWritten}
+use Rattle.bd_top.specs.CheckLine.{check_line}
+use Rattle.bd_top.specs.Inputs.{IsBadImage, IsBadScript, IsImageRead, IsScriptRead, RefusesImage, RefusesReplay}
+use Rattle.bd_top.specs.Runs.{IsReplay}
+use Rattle.bd_image.proofs.LongImages.{too_long}
+use Rattle.bd_top.proofs.Reading.{too_long_script}
 
 -- the laws of refusals
 abbrev pub NotAccepted : Type 0
@@ -35,146 +26,144 @@ NotAccepted = (b : List ℕ) (number place : ℕ) → Broken b number place → 
 abbrev pub OneRefusal : Type 0
 OneRefusal = (b : List ℕ) (m p n q : ℕ) → Broken b m p → Broken b n q → (m ≡ n) × (p ≡ q)
 
--- a volume was read of an image that breaks no rule
-none_broken : NotAccepted → (i : Reading) (v : Volume) (b : List ℕ) (rule place : ℕ) → i.left ≡ Some b → Broken b rule place → IsImageRead i v → ⊥
-none_broken not i v b rule place left broken read = not b rule place broken (image_told i v b left read)
+-- what was left is longer than the limit where the bytes that were read are
+long_left : (r : Reading) (limit : ℕ) (bytes left : List ℕ) → r.left ≡ Some left → ReadPast limit r bytes → limit < length left
+long_left r limit bytes left is past = omega (arith, taken-le r.left r.remains bytes left is past.0, past.1)
 
--- two refusals of one image are the same
-same_refusal : OneRefusal → (i : Reading) (b : List ℕ) (rule place r p : ℕ) → i.left ≡ Some b → Broken b rule place → IsBadImage i r p → BadImage r p ≡ BadImage rule place
-same_refusal one i b rule place r p left broken bad =
-    let here : Broken b r p = told i.left b (λ bytes. Broken bytes r p) left bad.broken in
-    let same : (r ≡ rule) × (p ≡ place) = one b r p rule place here broken in
-    rw (same.0, same.1) refl
+-- ---- what was read of an image, and what was left
 
-pub replay_refuses_image : NotAccepted → OneRefusal → (i s : Reading) (o d : Writing) (outcome : Outcome) (status : Status) → ReplayEnd i s o d outcome status → RefusesImage i status
-replay_refuses_image not one i s o d outcome Done end b rule place left broken = absurd (none_broken not i end.2.volume b rule place left broken end.2.image_read)
-replay_refuses_image not one i s o d outcome Usage end b rule place left broken = absurd end
-replay_refuses_image not one i s o d outcome (ReadFault Image) end b rule place left broken = inr (inl refl)
-replay_refuses_image not one i s o d outcome (ReadFault Script_) end b rule place left broken = absurd (none_broken not i end.0.0 b rule place left broken end.0.1)
-replay_refuses_image not one i s o d outcome (BadImage r p) end b rule place left broken = inl (same_refusal one i b rule place r p left broken end.0)
-replay_refuses_image not one i s o d outcome (BadScript line r) end b rule place left broken = absurd (none_broken not i end.0.0 b rule place left broken end.0.1)
-replay_refuses_image not one i s o d outcome (WriteFault Out) end b rule place left broken = absurd (none_broken not i end.2.volume b rule place left broken end.2.image_read)
-replay_refuses_image not one i s o d outcome (WriteFault Disk) end b rule place left broken = absurd (none_broken not i end.2.volume b rule place left broken end.2.image_read)
-replay_refuses_image not one i s o d outcome OutOfMemory end b rule place left broken = inr (inr refl)
+module _ (not : NotAccepted) (one : OneRefusal) (image : Reading) where
+  -- an image that was read breaks no rule
+  not_broken : (v : Volume) (rule place : ℕ) → IsImageRead image v → Left image (λ b. Broken b rule place) → ⊥
+  not_broken v rule place read broken =
+      not broken.0 rule place broken.2 (subst Accepted (read.read broken.0 broken.1).0 read.accepted)
 
-pub check_refuses_image : NotAccepted → OneRefusal → (i : Reading) (o : Writing) (status : Status) → CheckEnd i o status → RefusesImage i status
-check_refuses_image not one i o Done end b rule place left broken = absurd (none_broken not i end.0 b rule place left broken end.1)
-check_refuses_image not one i o Usage end b rule place left broken = absurd end
-check_refuses_image not one i o (ReadFault Image) end b rule place left broken = inr (inl refl)
-check_refuses_image not one i o (ReadFault Script_) end b rule place left broken = absurd end
-check_refuses_image not one i o (BadImage r p) end b rule place left broken = inl (same_refusal one i b rule place r p left broken end.0)
-check_refuses_image not one i o (BadScript line r) end b rule place left broken = absurd end
-check_refuses_image not one i o (WriteFault Out) end b rule place left broken = absurd (none_broken not i end.0 b rule place left broken end.1)
-check_refuses_image not one i o (WriteFault Disk) end b rule place left broken = absurd end
-check_refuses_image not one i o OutOfMemory end b rule place left broken = inr (inr refl)
+  -- one that was refused is not accepted
+  not_accepted : (r p : ℕ) → IsBadImage image r p → Left image Accepted → ⊥
+  not_accepted r p bad accepted =
+      elim bad.read [
+        | inl all ↦ not accepted.0 r p (subst (λ (b : List ℕ). Broken b r p) (all.0 accepted.0 accepted.1).0 bad.broken) accepted.2
+        | inr past ↦ not accepted.0 1 (IMAGE_SIZE + 1) (too_long accepted.0 (long_left image IMAGE_SIZE bad.bytes accepted.0 accepted.1 past)) accepted.2
+      ]
 
--- a replay that was run read a script that is simple for the image's volume
-simple_told : (i s : Reading) (outcome : Outcome) (b text report final : List ℕ) → i.left ≡ Some b → s.left ≡ Some text → IsNotSimple (volume_of b) text
-    → IsReplay i s outcome.journal outcome.trace report final → ⊥
-simple_told i s outcome b text report final image_left script_left not_simple run =
-    let v : run.volume ≡ volume_of b = volume_told i run.volume b image_left run.image_read in
-    let simple : IsSimpleText run.volume text run.script = (told s.left text (λ t. IsSimpleText run.volume t run.script × (s.remains ≡ Some [])) script_left run.script_read.1).0 in
-    not_simple run.script (subst (λ w. IsSimpleText w text run.script) v simple)
+  -- it was refused with the rule and the place that it breaks
+  same_refusal : (r p rule place : ℕ) → IsBadImage image r p → Left image (λ b. Broken b rule place) → (r ≡ rule) × (p ≡ place)
+  same_refusal r p rule place bad broken =
+      elim bad.read [
+        | inl all ↦ one broken.0 r p rule place (subst (λ (b : List ℕ). Broken b r p) (all.0 broken.0 broken.1).0 bad.broken) broken.2
+        | inr past ↦
+            let read = one bad.bytes r p 1 (IMAGE_SIZE + 1) bad.broken (too_long bad.bytes (omega (arith, past.1))) in
+            let left = one broken.0 rule place 1 (IMAGE_SIZE + 1) broken.2
+            (too_long broken.0 (long_left image IMAGE_SIZE bad.bytes broken.0 broken.1 past)) in
+            (read.0 ∙ sym left.0, read.1 ∙ sym left.1)
+      ]
 
-pub replay_refuses_script : NotAccepted → (i s : Reading) (o d : Writing) (outcome : Outcome) (status : Status) → ReplayEnd i s o d outcome status → RefusesScript i s status
-replay_refuses_script not i s o d outcome Done end b text image_left script_left accepted not_simple = absurd (simple_told i s outcome b text end.0 end.1 image_left script_left not_simple end.2)
-replay_refuses_script not i s o d outcome Usage end b text image_left script_left accepted not_simple = absurd end
-replay_refuses_script not i s o d outcome (ReadFault Image) end b text image_left script_left accepted not_simple = inr (inl refl)
-replay_refuses_script not i s o d outcome (ReadFault Script_) end b text image_left script_left accepted not_simple = inr (inr (inl refl))
-replay_refuses_script not i s o d outcome (BadImage r p) end b text image_left script_left accepted not_simple =
-    absurd (not b r p (told i.left b (λ bytes. Broken bytes r p) image_left end.0.broken) accepted)
-replay_refuses_script not i s o d outcome (BadScript line r) end b text image_left script_left accepted not_simple = inl (rw (end.0.2.no_line, end.0.2.no_rule) refl)
-replay_refuses_script not i s o d outcome (WriteFault Out) end b text image_left script_left accepted not_simple = absurd (simple_told i s outcome b text end.0 end.1 image_left script_left not_simple end.2)
-replay_refuses_script not i s o d outcome (WriteFault Disk) end b text image_left script_left accepted not_simple = absurd (simple_told i s outcome b text end.0 end.1 image_left script_left not_simple end.2)
-replay_refuses_script not i s o d outcome OutOfMemory end b text image_left script_left accepted not_simple = inr (inr (inr refl))
+  -- the volume that was read is the one of the image that was left
+  same_volume : (v : Volume) (b : List ℕ) → IsImageRead image v → image.left ≡ Some b → v ≡ volume_of b
+  same_volume v b read is = read.says ∙ ap volume_of (read.read b is).0
 
--- a script that is simple for the image's volume is not refused
-not_refused : (i s : Reading) (v : Volume) (o d : Writing) → CanReplay i s o d → IsImageRead i v → ForTold s.left (IsNotSimple v) → ⊥
-not_refused i s v o d can read fact =
-    let same : v ≡ volume_of can.bytes = volume_told i v can.bytes can.image_left read in
-    let not_simple : IsNotSimple v can.text = told s.left can.text (IsNotSimple v) can.script_left fact in
-    not_simple can.simple (subst (λ w. IsSimpleText w can.text can.simple) (sym same) can.is_simple)
+  -- ---- what was read of a script, and what was left
 
-pub replay_completes : NotAccepted → (i s : Reading) (o d : Writing) (outcome : Outcome) (status : Status) → ReplayEnd i s o d outcome status → CanReplay i s o d → IsDone status
-replay_completes not i s o d outcome Done end can = inl refl
-replay_completes not i s o d outcome Usage end can = absurd end
-replay_completes not i s o d outcome (ReadFault Image) end can = absurd (can.image_reads end.0)
-replay_completes not i s o d outcome (ReadFault Script_) end can = absurd (can.script_reads end.1)
-replay_completes not i s o d outcome (BadImage r p) end can = absurd (not can.bytes r p (told i.left can.bytes (λ bytes. Broken bytes r p) can.image_left end.0.broken) can.accepted)
-replay_completes not i s o d outcome (BadScript line r) end can = absurd (not_refused i s end.0.0 o d can end.0.1 end.0.2.not_simple)
-replay_completes not i s o d outcome (WriteFault Out) end can = absurd (can.out_writes end.3.0)
-replay_completes not i s o d outcome (WriteFault Disk) end can = absurd (can.disk_writes end.3.0)
-replay_completes not i s o d outcome OutOfMemory end can = inr refl
+  -- a script that was read is simple
+  not_refused : (v : Volume) (script : Script) (text : Reading) → IsScriptRead v text script → Left text (IsNotSimple v) → ⊥
+  not_refused v script text read refused =
+      refused.2 script (subst (λ (t : List ℕ). IsSimpleText v t script) (read.read refused.0 refused.1).0 read.simple)
 
-pub check_completes : NotAccepted → (i : Reading) (o : Writing) (status : Status) → CheckEnd i o status → CanCheck i o → IsDone status
-check_completes not i o Done end can = inl refl
-check_completes not i o Usage end can = absurd end
-check_completes not i o (ReadFault Image) end can = absurd (can.image_reads end.0)
-check_completes not i o (ReadFault Script_) end can = absurd end
-check_completes not i o (BadImage r p) end can = absurd (not can.bytes r p (told i.left can.bytes (λ bytes. Broken bytes r p) can.image_left end.0.broken) can.accepted)
-check_completes not i o (BadScript line r) end can = absurd end
-check_completes not i o (WriteFault Out) end can = absurd (can.out_writes end.2.0)
-check_completes not i o (WriteFault Disk) end can = absurd end
-check_completes not i o OutOfMemory end can = inr refl
+  -- one that was refused is not
+  not_simple : (v : Volume) (line rule : ℕ) (text : Reading) → IsBadScript v text line rule
+      → Left text (λ t. (script : Script) × IsSimpleText v t script) → ⊥
+  not_simple v line rule text bad simple =
+      elim bad.read [
+        | inl all ↦ subst (IsNotSimple v) (all.0 simple.0 simple.1).0 bad.not_simple simple.2.0 simple.2.1
+        | inr past ↦
+            too_long_script v simple.0 (long_left text SCRIPT_SIZE bad.bytes simple.0 simple.1 past) simple.2.0 simple.2.1
+      ]
 
--- no command ends as one that no words say
-pub replay_says_command : (i s : Reading) (o d : Writing) (outcome : Outcome) (status : Status) → ReplayEnd i s o d outcome status → status ≡ Usage → ⊥
-replay_says_command i s o d outcome status end usage = let there : ⊥ = subst (ReplayEnd i s o d outcome) usage end in there
+  -- ---- replay
 
-pub check_says_command : (i : Reading) (o : Writing) (status : Status) → CheckEnd i o status → status ≡ Usage → ⊥
-check_says_command i o status end usage = let there : ⊥ = subst (CheckEnd i o) usage end in there
+  -- a replay that was refused
+  refused_decided : (text : Reading) (status decided : Status) → RefusesReplay image text status → LeadReplayTo image text decided
+      → (status ≡ decided) ⊎ IsFault status
+  refused_decided text (ReadFault which) decided refused lead = inr tt
+  refused_decided text (WriteFault to) decided refused lead = inr tt
+  refused_decided text OutOfMemory decided refused lead = inr tt
+  refused_decided text (BadImage r p) (BadImage rule place) (inl refused) lead =
+      let same = same_refusal r p rule place refused.0 lead in inl (rw (same.0, same.1) refl)
+  refused_decided text (BadImage r p) (BadScript line rule) (inl refused) lead =
+      absurd (not_accepted r p refused.0 (lead.0.0, lead.0.1, lead.0.2.0))
+  refused_decided text (BadImage r p) Done (inl refused) lead = absurd (not_accepted r p refused.0 (lead.0, lead.1, lead.2.0))
+  refused_decided text (BadScript l r) (BadImage rule place) (inr refused) lead = absurd (not_broken refused.0 rule place refused.1 lead)
+  refused_decided text (BadScript l r) (BadScript line rule) (inr refused) lead =
+      inl (rw (refused.2.no_line, refused.2.no_rule, lead.1, lead.2) refl)
+  refused_decided text (BadScript l r) Done (inr refused) lead =
+      let v = same_volume refused.0 lead.0 refused.1 lead.1 in
+      absurd (not_simple (volume_of lead.0) l r text (subst (λ (w : Volume). IsBadScript w text l r) v refused.2) lead.2.1)
+  refused_decided text (BadImage r p) decided (inl refused) lead = absurd lead
+  refused_decided text (BadScript l r) decided (inr refused) lead = absurd lead
+  refused_decided text status decided (inl refused) lead = absurd refused.0
+  refused_decided text status decided (inr refused) lead = absurd refused.2
 
--- ---- from a run, or from the want of one, to the end of a replay
+  -- a replay that was run
+  ran_decided : (text : Reading) (out disk : Writing) (outcome : Outcome) (report left : List ℕ) (status decided : Status)
+      → IsReplay image text outcome.journal outcome.trace report left → RunWritten out disk report left status
+      → LeadReplayTo image text decided → (status ≡ decided) ⊎ IsFault status
+  ran_decided text out disk outcome report left (ReadFault which) decided run written lead = inr tt
+  ran_decided text out disk outcome report left (WriteFault to) decided run written lead = inr tt
+  ran_decided text out disk outcome report left OutOfMemory decided run written lead = inr tt
+  ran_decided text out disk outcome report left Done Done run written lead = inl refl
+  ran_decided text out disk outcome report left Done (BadImage rule place) run written lead =
+      absurd (not_broken run.volume rule place run.image_read lead)
+  ran_decided text out disk outcome report left Done (BadScript line rule) run written lead =
+      let v = same_volume run.volume lead.0.0 run.image_read lead.0.1 in
+      absurd (not_refused (volume_of lead.0.0) run.script text (subst (λ (w : Volume). IsScriptRead w text run.script) v run.script_read) lead.0.2.1)
+  ran_decided text out disk outcome report left Done decided run written lead = absurd lead
+  ran_decided text out disk outcome report left status decided run written lead = absurd written
 
--- a run whose report and image were written
-pub run_written : (i s : Reading) (o d : Writing) (outcome : Outcome) (report final : List ℕ) (status : Status) →
-    IsReplay i s outcome.journal outcome.trace report final → RunWritten o d report final status → ReplayEnd i s o d outcome status
-run_written i s o d outcome report final Done run written = (report, final, run, written)
-run_written i s o d outcome report final (WriteFault Out) run written = (report, final, run, written)
-run_written i s o d outcome report final (WriteFault Disk) run written = (report, final, run, written)
-run_written i s o d outcome report final OutOfMemory run written = inr (report, final, run, written)
-run_written i s o d outcome report final Usage run written = absurd written
-run_written i s o d outcome report final (ReadFault which) run written = absurd written
-run_written i s o d outcome report final (BadImage rule place) run written = absurd written
-run_written i s o d outcome report final (BadScript line rule) run written = absurd written
+  pub replay_decided : (text : Reading) (out disk : Writing) (outcome : Outcome)
+      → ReplayEnd (record { image = image; script = text; out = out; disk = disk }) outcome → Decide (LeadReplayTo image text) outcome.status
+  replay_decided text out disk outcome (inl none) = λ decided lead. refused_decided text outcome.status decided none.refused lead
+  replay_decided text out disk outcome (inr run) = λ decided lead.
+      ran_decided text out disk outcome run.report run.left outcome.status decided run.run run.written lead
 
--- a run that was not made
-pub run_refused : (i s : Reading) (o d : Writing) (outcome : Outcome) (status : Status) → NothingDone o d outcome → ReplayRefusal i s status → ReplayEnd i s o d outcome status
-run_refused i s o d outcome (ReadFault Image) none (inl refused) = (refused.0, refused.1, none)
-run_refused i s o d outcome (ReadFault Image) none (inr refused) = absurd refused.2
-run_refused i s o d outcome (ReadFault Script_) none (inl refused) = absurd refused.0
-run_refused i s o d outcome (ReadFault Script_) none (inr refused) = ((refused.0, refused.1), refused.2, none)
-run_refused i s o d outcome (BadImage rule place) none (inl refused) = (refused.0, refused.1, none)
-run_refused i s o d outcome (BadImage rule place) none (inr refused) = absurd refused.2
-run_refused i s o d outcome (BadScript line rule) none (inl refused) = absurd refused.0
-run_refused i s o d outcome (BadScript line rule) none (inr refused) = ((refused.0, refused.1, refused.2), none)
-run_refused i s o d outcome OutOfMemory none refused = inl none
-run_refused i s o d outcome Done none (inl refused) = absurd refused.0
-run_refused i s o d outcome Done none (inr refused) = absurd refused.2
-run_refused i s o d outcome Usage none (inl refused) = absurd refused.0
-run_refused i s o d outcome Usage none (inr refused) = absurd refused.2
-run_refused i s o d outcome (WriteFault to) none (inl refused) = absurd refused.0
-run_refused i s o d outcome (WriteFault to) none (inr refused) = absurd refused.2
+  -- ---- check
 
--- ---- from an image that was refused, or from the writing of a line, to the end of a check
+  -- a check of an image that was refused
+  refused_check_decided : (status decided : Status) → RefusesImage image status → LeadCheckTo image decided
+      → (status ≡ decided) ⊎ IsFault status
+  refused_check_decided (ReadFault which) decided refused lead = inr tt
+  refused_check_decided OutOfMemory decided refused lead = inr tt
+  refused_check_decided (BadImage r p) (BadImage rule place) refused lead =
+      let same = same_refusal r p rule place refused lead in inl (rw (same.0, same.1) refl)
+  refused_check_decided (BadImage r p) Done refused lead = absurd (not_accepted r p refused lead)
+  refused_check_decided (BadImage r p) decided refused lead = absurd lead
+  refused_check_decided status decided refused lead = absurd refused
 
--- an image that was refused
-pub check_refused : (i : Reading) (o : Writing) (status : Status) → WroteNothing o → ImageRefusal i status → CheckEnd i o status
-check_refused i o (ReadFault Image) none refused = (refused, none)
-check_refused i o (ReadFault Script_) none refused = absurd refused
-check_refused i o (BadImage rule place) none refused = (refused, none)
-check_refused i o OutOfMemory none refused = inl none
-check_refused i o Done none refused = absurd refused
-check_refused i o Usage none refused = absurd refused
-check_refused i o (BadScript line rule) none refused = absurd refused
-check_refused i o (WriteFault to) none refused = absurd refused
+  -- a check that told of its image
+  told_decided : (v : Volume) (out : Writing) (status decided : Status) → IsImageRead image v → LineWritten out (check_line v) status
+      → LeadCheckTo image decided → (status ≡ decided) ⊎ IsFault status
+  told_decided v out (WriteFault to) decided read written lead = inr tt
+  told_decided v out OutOfMemory decided read written lead = inr tt
+  told_decided v out Done Done read written lead = inl refl
+  told_decided v out Done (BadImage rule place) read written lead = absurd (not_broken v rule place read lead)
+  told_decided v out Done decided read written lead = absurd lead
+  told_decided v out status decided read written lead = absurd written
 
-pub line_written : (i : Reading) (o : Writing) (v : Volume) (status : Status) → IsImageRead i v → LineWritten o (check_line v) status → CheckEnd i o status
-line_written i o v Done read written = (v, read, written)
-line_written i o v (WriteFault Out) read written = (v, read, written)
-line_written i o v OutOfMemory read written = inr (v, read, written)
-line_written i o v Usage read written = absurd written
-line_written i o v (ReadFault which) read written = absurd written
-line_written i o v (WriteFault Disk) read written = absurd written
-line_written i o v (BadImage rule place) read written = absurd written
-line_written i o v (BadScript line rule) read written = absurd written
+  pub check_decided : (out : Writing) (status : Status) → CheckEnd image out status → Decide (LeadCheckTo image) status
+  check_decided out status (inl none) = λ decided lead. refused_check_decided status decided none.0 lead
+  check_decided out status (inr told) = λ decided lead. told_decided told.0 out status decided told.1 told.2 lead
+
+-- ---- no command ends as one for which no words ask
+
+refused_is_command : (image text : Reading) → RefusesReplay image text Usage → ⊥
+refused_is_command image text (inl refused) = refused.0
+refused_is_command image text (inr refused) = refused.2
+
+pub replay_is_command : (around : Around) (outcome : Outcome) → ReplayEnd around outcome → outcome.status ≡ Usage → ⊥
+replay_is_command around outcome (inl none) usage =
+    refused_is_command around.image around.script (subst (RefusesReplay around.image around.script) usage none.refused)
+replay_is_command around outcome (inr run) usage =
+    let there : ⊥ = subst (RunWritten around.out around.disk run.report run.left) usage run.written in there
+
+pub check_is_command : (image : Reading) (out : Writing) (status : Status) → CheckEnd image out status → status ≡ Usage → ⊥
+check_is_command image out status (inl none) usage = let there : ⊥ = subst (RefusesImage image) usage none.0 in there
+check_is_command image out status (inr told) usage = let there : ⊥ = subst (LineWritten out (check_line told.0)) usage told.2 in there

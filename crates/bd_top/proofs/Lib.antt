@@ -1,4 +1,4 @@
--- Lemmas on texts, on what was read, on what an end tells, and on numbers of blocks.
+-- Lemmas on the report, on what was read, on ends, and on numbers of blocks.
 pub mod Appending
 pub mod Counting
 pub mod Ends

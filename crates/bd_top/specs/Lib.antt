@@ -1,9 +1,8 @@
--- The texts of the commands, and what each command has done where it ends.
-pub mod Causes
-pub mod Outside
+-- The texts of the commands, and what each command promises.
+pub mod CheckLine
+pub mod Ends
+pub mod Inputs
 pub mod Report
 pub mod Runs
 pub mod Status
-pub mod Steps
-pub mod Totals
 pub mod Words

@@ -1,6 +1,6 @@
 -- The exit code and the line of each status.
 use Rattle.std.specs.Prelude.{ℕ, List, [], ◌++◌, codes}
-use Rattle.std.specs.Fmt.{decimal}
+use Rattle.bd_blocks.specs.Texts.{number_text}
 use Rattle.bd_top.specs.declared.status.Status.{Status}
 use Rattle.bd_top.specs.declared.status.Status.TheVariants.{Done, Usage, ReadFault, WriteFault, BadImage, BadScript, OutOfMemory}
 use Rattle.bd_top.specs.declared.status.To.TheVariants.{Out, Disk}
@@ -18,11 +18,12 @@ code_of OutOfMemory = 7
 
 -- the line that tells which rule an image breaks, and where
 abbrev pub bad_image_text : ℕ → ℕ → List ℕ
-bad_image_text rule place = codes "bypassd: bad image: rule " ++ decimal rule ++ codes " at " ++ decimal place
+bad_image_text rule place = codes "bypassd: bad image: rule " ++ number_text rule ++ codes " at " ++ number_text place
 
 -- the line that tells which rule a script breaks, and in which line
 abbrev pub bad_script_text : ℕ → ℕ → List ℕ
-bad_script_text line rule = codes "bypassd: bad script: rule " ++ decimal rule ++ codes " at line " ++ decimal line
+bad_script_text line rule =
+    codes "bypassd: bad script: rule " ++ number_text rule ++ codes " at line " ++ number_text line
 
 -- the line that tells a status, without its end
 abbrev pub fault_text_of : Status → List ℕ

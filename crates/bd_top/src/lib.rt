@@ -7,9 +7,9 @@ mod program;
 mod replay;
 mod report;
 mod status;
-mod text;
 mod words;
 
+pub use bd_outside::{ReadSource, WriteSink};
 pub use check::check_all;
 pub use program::top;
 pub use replay::replay_all;

@@ -1,12 +1,13 @@
 //! The command `replay`.
-ghost use Rattle.std.specs.Prelude.{◌≡◌, ◌+◌, IfOk, IfErr};
+ghost use Rattle.std.specs.Prelude.{◌+◌, IfOk, IfErr};
 ghost use Rattle.bd_base.specs.declared.limits.TheConstants.{IMAGE_SIZE, SCRIPT_SIZE};
+ghost use Rattle.bd_base.specs.Scripts.{IsWithinLimits};
 ghost use Rattle.bd_image.specs.Volumes.{AcceptedVolume};
 ghost use Rattle.bd_machine.specs.Simple.{IsSimple};
-ghost use Rattle.bd_top.specs.Causes.{CanReplay, IsDone, RefusesImage, RefusesScript, ReplayAnswer};
-ghost use Rattle.bd_top.specs.Outside.{ReadAtMost, reading, writing};
+ghost use Rattle.bd_outside.specs.Around.{ReadAtMost, reading, writing};
+ghost use Rattle.bd_top.specs.Ends.{Around, Replays, RunWritten};
+ghost use Rattle.bd_top.specs.Inputs.{RefusesReplay};
 ghost use Rattle.bd_top.specs.Runs.{IsReplay, IsRun};
-ghost use Rattle.bd_top.specs.Steps.{ReplayRefusal, RunWritten};
 
 use crate::inputs::{read_image, read_script};
 use crate::report::report;
@@ -32,6 +33,7 @@ struct WholeRun {
 fn run_script(alloc: Global, volume: Volume, script: Script) -> Result<WholeRun, OutOfMemory>
     requires volume { AcceptedVolume volume }
     requires script { IsSimple volume script }
+    requires limits { IsWithinLimits script }
     ensures { IfOk result (λ run. IsRun volume script run.journal run.trace run.report run.image) }
 {
     sound_volumes();
@@ -48,9 +50,10 @@ fn run_script(alloc: Global, volume: Volume, script: Script) -> Result<WholeRun,
     })
 }
 
-/// Writes the report, and then the image.
+/// Writes the report, and then the image. It takes no allocator: both are made before.
 fn write_run<O: Sink, D: Sink>(out: &mut O, disk: &mut D, report: &[u8], image: &[u8]) -> Status
-    ensures { RunWritten (writing O.held O.faults O.last_fault out.old out.new) (writing D.held D.faults D.last_fault disk.old disk.new) report.now image.now result }
+    ensures { RunWritten (writing O.Sink out.old out.new) (writing D.Sink disk.old disk.new)
+        report.now image.now result }
 {
     match write_all(out, report) {
         Ok(()) => {}
@@ -64,16 +67,20 @@ fn write_run<O: Sink, D: Sink>(out: &mut O, disk: &mut D, report: &[u8], image: 
     }
 }
 
-/// Reads the image and the script, and makes the run.
+/// Reads the image and the script, and makes the run with its report and its image. It takes no
+/// sink.
 fn read_and_run<I: Source, S: Source>(
     alloc: Global,
     image: &mut I,
     script: &mut S,
 ) -> Result<WholeRun, Status>
-    ensures ok { IfOk result (λ run. IsReplay (reading I.left I.faults I.last_fault image.old image.new) (reading S.left S.faults S.last_fault script.old script.new) run.journal run.trace run.report run.image) }
-    ensures err { IfErr result (ReplayRefusal (reading I.left I.faults I.last_fault image.old image.new) (reading S.left S.faults S.last_fault script.old script.new)) }
-    ensures image_taken { ReadAtMost (IMAGE_SIZE + 1) (reading I.left I.faults I.last_fault image.old image.new) }
-    ensures script_taken { ReadAtMost (SCRIPT_SIZE + 1) (reading S.left S.faults S.last_fault script.old script.new) }
+    ensures ok { IfOk result (λ run. IsReplay
+        (reading I.Source image.old image.new) (reading S.Source script.old script.new)
+        run.journal run.trace run.report run.image) }
+    ensures err { IfErr result (RefusesReplay
+        (reading I.Source image.old image.new) (reading S.Source script.old script.new)) }
+    ensures image_taken { ReadAtMost (IMAGE_SIZE + 1) (reading I.Source image.old image.new) }
+    ensures script_taken { ReadAtMost (SCRIPT_SIZE + 1) (reading S.Source script.old script.new) }
 {
     let volume = read_image(alloc, image)?;
     let script = read_script(alloc, script, &volume)?;
@@ -83,10 +90,12 @@ fn read_and_run<I: Source, S: Source>(
     }
 }
 
-/// Replays a simple script over an image: turns of the actors in rounds, on one thread. Writes the report to `out`, and
-/// then the image as the run leaves it to `disk`.
+/// Replays a simple script over an image: turns of the actors in rounds, on one thread. Writes the
+/// report to `out`, and then the image as the run leaves it to `disk`.
 ///
-/// Nothing is written before both are made. `ReplayEnd` (specs/Causes.antt) tells what each status means.
+/// Both are made by a call that takes no sink, and written by one that takes no allocator, so
+/// nothing is written before both are made. `Replays` (specs/Ends.antt) tells what each status
+/// means.
 pub fn replay_all<I: Source, S: Source, O: Sink, D: Sink>(
     alloc: Global,
     image: &mut I,
@@ -94,12 +103,12 @@ pub fn replay_all<I: Source, S: Source, O: Sink, D: Sink>(
     out: &mut O,
     disk: &mut D,
 ) -> Outcome
-    ensures answer { ReplayAnswer (reading I.left I.faults I.last_fault image.old image.new) (reading S.left S.faults S.last_fault script.old script.new) (writing O.held O.faults O.last_fault out.old out.new) (writing D.held D.faults D.last_fault disk.old disk.new) result }
-    ensures bad_image { RefusesImage (reading I.left I.faults I.last_fault image.old image.new) result.status }
-    ensures bad_script { RefusesScript (reading I.left I.faults I.last_fault image.old image.new) (reading S.left S.faults S.last_fault script.old script.new) result.status }
-    ensures complete { CanReplay (reading I.left I.faults I.last_fault image.old image.new) (reading S.left S.faults S.last_fault script.old script.new) (writing O.held O.faults O.last_fault out.old out.new) (writing D.held D.faults D.last_fault disk.old disk.new) → IsDone result.status }
-    ensures image_taken { ReadAtMost (IMAGE_SIZE + 1) (reading I.left I.faults I.last_fault image.old image.new) }
-    ensures script_taken { ReadAtMost (SCRIPT_SIZE + 1) (reading S.left S.faults S.last_fault script.old script.new) }
+    ensures { let around : Around = record {
+      image = reading I.Source image.old image.new;
+      script = reading S.Source script.old script.new;
+      out = writing O.Sink out.old out.new;
+      disk = writing D.Sink disk.old disk.new;
+    } in Replays around result }
 {
     refused_is_not_accepted();
     one_refusal();

@@ -1,14 +1,14 @@
 //! The report of a run of a simple script.
-ghost use Rattle.std.specs.Prelude.{◌≤◌, ◌≡◌, ℕ, ◌+◌, ◌<◌, ◌^◌, [], ◌∷◌, ◌++◌, None, Some, IfOk, OnOk, length, MatchOption, count_by, codes};
+ghost use Rattle.std.specs.Prelude.{◌≤◌, ◌≡◌, ◌++◌, IfOk, OnOk};
 ghost use Rattle.bd_base.specs.declared.limits.TheConstants.{BLOCK_SIZE};
-ghost use Rattle.std.specs.Fmt.{decimal};
-ghost use Rattle.bd_entry.specs.Calls.{at_of, entries_of, same_call};
+ghost use Rattle.bd_entry.specs.Calls.{at_of, same_call};
 ghost use Rattle.bd_machine.specs.Simple.{Wish, simple_script};
-ghost use Rattle.bd_top.specs.Report.{is_direct_access, is_kernel_access, open_reply, piece_bytes, read_reply, report_text, total_line};
+ghost use Rattle.bd_top.specs.Report.{call_entries, counts, open_reply, piece_bytes, read_reply};
+ghost use Rattle.bd_top.specs.Report.{report_text, total_count, total_field, total_line};
 
-use crate::text::{push, push_number};
 use bd_base::{At, Bytes, List, OutOfMemory, Pid, Way};
-use bd_blocks::runs;
+use bd_blocks::push_runs;
+use bd_blocks::text::{push_bytes, push_number, push_number_field};
 use bd_entry::Entry;
 use std::alloc::Global;
 
@@ -37,18 +37,19 @@ fn is_of_call(entry: &Entry, call: u16) -> bool
 }
 
 /// Appends the reply of the first call, which opened a file.
-fn push_open_reply(alloc: Global, text: &mut Vec<u8>, journal: &[Entry]) -> Result<(), OutOfMemory>
-    ensures { OnOk result (text.new.items ≡ text.old.items ++ open_reply (entries_of (record { process = 0; call = 0 }) journal.now)) }
+fn push_open_reply(text: &mut Vec<u8>, journal: &[Entry]) -> Result<(), OutOfMemory>
+    ensures { OnOk result
+        (text.new.items ≡ text.old.items ++ open_reply (call_entries journal.now 0 0)) }
 {
     for entry in journal {
         if !is_of_call(entry, 0) {
             continue;
         }
         if let Entry::Mapped { fd, count, .. } = entry {
-            push(text, b"ok ")?;
-            push_number(alloc, text, fd.get())?;
-            push(text, b" mapped ")?;
-            return push_number(alloc, text, u64::from(*count));
+            push_bytes(text, b"ok ")?;
+            push_number(text, fd.get())?;
+            push_bytes(text, b" mapped ")?;
+            return push_number(text, u64::from(*count));
         }
     }
     Ok(())
@@ -56,7 +57,7 @@ fn push_open_reply(alloc: Global, text: &mut Vec<u8>, journal: &[Entry]) -> Resu
 
 /// The bytes of the first piece of the second call, which read.
 fn bytes_read(journal: &[Entry]) -> &[u8]
-    ensures { result.now ≡ piece_bytes 0 (entries_of (record { process = 0; call = 1 }) journal.now) }
+    ensures { result.now ≡ piece_bytes 0 (call_entries journal.now 0 1) }
 {
     for entry in journal {
         if !is_of_call(entry, 1) {
@@ -75,74 +76,87 @@ fn bytes_read(journal: &[Entry]) -> &[u8]
 }
 
 /// Appends the reply of a read that gave these bytes.
-fn push_read_reply(alloc: Global, text: &mut Vec<u8>, bytes: &[u8]) -> Result<(), OutOfMemory>
+fn push_read_reply(text: &mut Vec<u8>, bytes: &[u8]) -> Result<(), OutOfMemory>
     ensures { OnOk result (text.new.items ≡ text.old.items ++ read_reply bytes.now) }
 {
-    push(text, b"ok ")?;
-    push_number(alloc, text, bytes.len() as u64)?;
-    push(text, b" ")?;
-    push(text, runs(alloc, bytes)?.as_slice())
+    push_bytes(text, b"ok ")?;
+    push_number_field(text, bytes.len() as u64)?;
+    push_runs(text, bytes)
 }
 
-/// Whether the entry is a direct access.
-fn is_direct(entry: &Entry) -> bool
-    ensures { result ≡ is_direct_access entry.now }
-{
-    matches!(
-        entry,
-        Entry::Access {
-            way: Way::Direct,
-            ..
-        }
-    )
+/// What the last line of a report counts.
+#[derive(Clone, Copy, Debug, PartialEq, Eq)]
+pub(crate) enum Total {
+    /// Direct accesses.
+    Directs,
+    /// Accesses by the kernel.
+    ByKernel,
+    /// Direct accesses that found no translation.
+    Misses,
+    /// Rights that were detached.
+    Detaches,
 }
 
-/// Whether the entry is an access by the kernel.
-fn is_by_kernel(entry: &Entry) -> bool
-    ensures { result ≡ is_kernel_access entry.now }
+/// Whether a total counts this entry.
+fn is_counted(total: Total, entry: &Entry) -> bool
+    ensures { result ≡ counts total entry.now }
 {
-    match entry {
-        Entry::Access { way, .. } => *way != Way::Direct,
+    match (total, entry) {
+        (Total::Directs, Entry::Access { way, .. }) => *way == Way::Direct,
+        (Total::ByKernel, Entry::Access { way, .. }) => *way != Way::Direct,
+        (Total::Misses, Entry::Missed { .. }) => true,
+        (Total::Detaches, Entry::Detached { .. }) => true,
         _ => false,
     }
 }
 
-/// How many entries are direct accesses.
-fn direct_count(journal: &[Entry]) -> usize
-    ensures { result ≡ count_by is_direct_access journal.now }
+/// How many entries a total counts.
+fn count_of(total: Total, journal: &[Entry]) -> u64
+    ensures { result ≡ total_count total journal.now }
 {
-    journal.iter().filter(|entry| is_direct(entry)).count()
+    journal
+        .iter()
+        .filter(|entry| is_counted(total, entry))
+        .count() as u64
 }
 
-/// How many entries are accesses by the kernel.
-fn kernel_count(journal: &[Entry]) -> usize
-    ensures { result ≡ count_by is_kernel_access journal.now }
+/// Appends a total after its name.
+fn push_total(
+    text: &mut Vec<u8>,
+    name: &[u8],
+    total: Total,
+    journal: &[Entry],
+) -> Result<(), OutOfMemory>
+    ensures { OnOk result
+        (text.new.items ≡ text.old.items ++ total_field name.now total journal.now) }
 {
-    journal.iter().filter(|entry| is_by_kernel(entry)).count()
+    push_bytes(text, name)?;
+    push_number(text, count_of(total, journal))
 }
 
 /// Appends the last line, with the totals.
-fn push_totals(alloc: Global, text: &mut Vec<u8>, journal: &[Entry]) -> Result<(), OutOfMemory>
+fn push_totals(text: &mut Vec<u8>, journal: &[Entry]) -> Result<(), OutOfMemory>
     ensures { OnOk result (text.new.items ≡ text.old.items ++ total_line journal.now) }
 {
-    push(text, b"total direct ")?;
-    push_number(alloc, text, direct_count(journal) as u64)?;
-    push(text, b" kernel ")?;
-    push_number(alloc, text, kernel_count(journal) as u64)?;
-    push(text, b" missed 0 detached 0\n")?;
+    push_total(text, b"total direct ", Total::Directs, journal)?;
+    push_total(text, b" kernel ", Total::ByKernel, journal)?;
+    push_total(text, b" missed ", Total::Misses, journal)?;
+    push_total(text, b" detached ", Total::Detaches, journal)?;
+    push_bytes(text, b"\n")?;
     Ok(())
 }
 
 /// The report of a run of a simple script with this journal.
 pub(crate) fn report(alloc: Global, journal: &[Entry]) -> Result<Bytes, OutOfMemory>
-    ensures { IfOk result (λ text. (w : Wish) → 1 ≤ w.len → w.len ≤ BLOCK_SIZE → text ≡ report_text (simple_script w) journal.now) }
+    ensures { IfOk result (λ text. (w : Wish) → 1 ≤ w.len → w.len ≤ BLOCK_SIZE →
+        text ≡ report_text (simple_script w) journal.now) }
 {
     let mut text = Vec::new(alloc);
-    push(&mut text, b"bypassd-report 1\nproc 0\n0 ")?;
-    push_open_reply(alloc, &mut text, journal)?;
-    push(&mut text, b"\n1 ")?;
-    push_read_reply(alloc, &mut text, bytes_read(journal))?;
-    push(&mut text, b"\n")?;
-    push_totals(alloc, &mut text, journal)?;
+    push_bytes(&mut text, b"bypassd-report 1\nproc 0\n0 ")?;
+    push_open_reply(&mut text, journal)?;
+    push_bytes(&mut text, b"\n1 ")?;
+    push_read_reply(&mut text, bytes_read(journal))?;
+    push_bytes(&mut text, b"\n")?;
+    push_totals(&mut text, journal)?;
     Ok(List::from_vec(text))
 }

@@ -2,8 +2,8 @@
 ghost use Rattle.std.specs.Prelude.{◌≡◌, [], ◌++◌, IfOk, OnOk};
 ghost use Rattle.bd_top.specs.Status.{bad_image_text, bad_script_text, code_of, fault_text_of};
 
-use crate::text::{push, push_number};
 use bd_base::{Bytes, List, OutOfMemory};
+use bd_blocks::text::{push_bytes, push_number};
 use bd_entry::EntryList;
 use bd_machine::EventList;
 use std::alloc::Global;
@@ -84,46 +84,36 @@ pub fn fault_text(alloc: Global, status: &Status) -> Result<Bytes, OutOfMemory>
     let mut text = Vec::new(alloc);
     match status {
         Status::Done => {}
-        Status::Usage => push(&mut text, b"bypassd: usage")?,
-        Status::ReadFault(Which::Image) => push(&mut text, b"bypassd: read fault: image")?,
-        Status::ReadFault(Which::Script) => push(&mut text, b"bypassd: read fault: script")?,
-        Status::WriteFault(To::Out) => push(&mut text, b"bypassd: write fault: out")?,
-        Status::WriteFault(To::Disk) => push(&mut text, b"bypassd: write fault: disk")?,
-        Status::BadImage { rule, place } => push_bad_image(alloc, &mut text, *rule, *place)?,
-        Status::BadScript { line, rule } => push_bad_script(alloc, &mut text, *line, *rule)?,
-        Status::OutOfMemory => push(&mut text, b"bypassd: out of memory")?,
+        Status::Usage => push_bytes(&mut text, b"bypassd: usage")?,
+        Status::ReadFault(Which::Image) => push_bytes(&mut text, b"bypassd: read fault: image")?,
+        Status::ReadFault(Which::Script) => push_bytes(&mut text, b"bypassd: read fault: script")?,
+        Status::WriteFault(To::Out) => push_bytes(&mut text, b"bypassd: write fault: out")?,
+        Status::WriteFault(To::Disk) => push_bytes(&mut text, b"bypassd: write fault: disk")?,
+        Status::BadImage { rule, place } => push_bad_image(&mut text, *rule, *place)?,
+        Status::BadScript { line, rule } => push_bad_script(&mut text, *line, *rule)?,
+        Status::OutOfMemory => push_bytes(&mut text, b"bypassd: out of memory")?,
     }
     Ok(List::from_vec(text))
 }
 
 /// Appends the line of a bad image.
-fn push_bad_image(
-    alloc: Global,
-    text: &mut Vec<u8>,
-    rule: u8,
-    place: u64,
-) -> Result<(), OutOfMemory>
+fn push_bad_image(text: &mut Vec<u8>, rule: u8, place: u64) -> Result<(), OutOfMemory>
     ensures { OnOk result (text.new.items ≡ text.old.items ++ bad_image_text rule place) }
 {
-    push(text, b"bypassd: bad image: rule ")?;
-    push_number(alloc, text, u64::from(rule))?;
-    push(text, b" at ")?;
-    push_number(alloc, text, place)?;
+    push_bytes(text, b"bypassd: bad image: rule ")?;
+    push_number(text, u64::from(rule))?;
+    push_bytes(text, b" at ")?;
+    push_number(text, place)?;
     Ok(())
 }
 
 /// Appends the line of a bad script.
-fn push_bad_script(
-    alloc: Global,
-    text: &mut Vec<u8>,
-    line: u64,
-    rule: u8,
-) -> Result<(), OutOfMemory>
+fn push_bad_script(text: &mut Vec<u8>, line: u64, rule: u8) -> Result<(), OutOfMemory>
     ensures { OnOk result (text.new.items ≡ text.old.items ++ bad_script_text line rule) }
 {
-    push(text, b"bypassd: bad script: rule ")?;
-    push_number(alloc, text, u64::from(rule))?;
-    push(text, b" at line ")?;
-    push_number(alloc, text, line)?;
+    push_bytes(text, b"bypassd: bad script: rule ")?;
+    push_number(text, u64::from(rule))?;
+    push_bytes(text, b" at line ")?;
+    push_number(text, line)?;
     Ok(())
 }

@@ -11,12 +11,13 @@ use std::alloc::{AllocError, Global};
 use std::process::Abort;
 use std::test::Fail;
 
-/// The script of the first read, that of examples/first-read: `a` is opened for direct reads, and five bytes are read.
+/// The script of the first read, that of examples/first-read: `a` is opened for direct reads, and
+/// five bytes are read.
 const SCRIPT: &str = "bypassd-script 1\nproc 100\nopen a r direct\nread 0 0 5\n";
 
 /// The report of its run: 111 bytes.
-const REPORT: &str =
-    "bypassd-report 1\nproc 0\n0 ok 0 mapped 1\n1 ok 5 68*1,65*1,6C*2,6F*1\ntotal direct 1 kernel 0 missed 0 detached 0\n";
+const REPORT: &str = "bypassd-report 1\nproc 0\n0 ok 0 mapped 1\n1 ok 5 68*1,65*1,6C*2,6F*1\n\
+    total direct 1 kernel 0 missed 0 detached 0\n";
 
 /// The bytes of a text as a list.
 fn bytes(alloc: Global, text: &str) -> Result<Bytes, AllocError> {
@@ -60,7 +61,7 @@ fn words(alloc: Global, texts: &[&str]) -> Result<Vec<String>, Fail> {
 }
 
 /// The numbers of the calls that fail: this one, or none.
-fn failing(alloc: Global, call: Option<u64>) -> Result<NumberList, AllocError> {
+fn fails_of(alloc: Global, call: Option<u64>) -> Result<NumberList, AllocError> {
     let mut fails = Vec::new(alloc);
     if let Some(number) = call {
         fails.push(number)?;
@@ -93,8 +94,8 @@ struct Left {
     disk: MemSink,
 }
 
-/// Runs a command: an image is read and written in pieces of at most 40,960 bytes, a script in pieces of 20 and a report
-/// in pieces of 40.
+/// Runs a command: an image is read and written in pieces of at most 40,960 bytes, a script in
+/// pieces of 20 and a report in pieces of 40.
 fn command(
     alloc: Global,
     texts: &[&str],
@@ -104,10 +105,10 @@ fn command(
 ) -> Result<Left, Fail> {
     let words = words(alloc, texts)?;
     let image = List::from_vec(image);
-    let mut image = MemSource::new(image, 40_960, failing(alloc, plan.image)?);
-    let mut script = MemSource::new(bytes(alloc, script)?, 20, failing(alloc, plan.script)?);
-    let mut out = MemSink::new(alloc, 40, failing(alloc, plan.out)?);
-    let mut disk = MemSink::new(alloc, 40_960, failing(alloc, plan.disk)?);
+    let mut image = MemSource::new(image, 40_960, fails_of(alloc, plan.image)?);
+    let mut script = MemSource::new(bytes(alloc, script)?, 20, fails_of(alloc, plan.script)?);
+    let mut out = MemSink::new(alloc, 40, fails_of(alloc, plan.out)?);
+    let mut disk = MemSink::new(alloc, 40_960, fails_of(alloc, plan.disk)?);
     let outcome = top(
         alloc,
         words.as_slice(),
@@ -120,13 +121,13 @@ fn command(
 }
 
 /// Replays a script over an image.
-fn replayed(alloc: Global, image: Vec<u8>, script: &str, plan: Plan) -> Result<Left, Fail> {
+fn replay_image(alloc: Global, image: Vec<u8>, script: &str, plan: Plan) -> Result<Left, Fail> {
     let words = ["replay", "image", "script", "out"];
     command(alloc, words.as_slice(), image, script, plan)
 }
 
 /// Checks an image.
-fn checked(alloc: Global, image: Vec<u8>, plan: Plan) -> Result<Left, Fail> {
+fn check_image(alloc: Global, image: Vec<u8>, plan: Plan) -> Result<Left, Fail> {
     command(alloc, ["check", "image"].as_slice(), image, SCRIPT, plan)
 }
 
@@ -137,7 +138,8 @@ fn is_refused(rt: &impl Abort, left: &Left, want: Status) {
     assert!(rt; left.out.held().is_empty() && left.disk.held().is_empty());
 }
 
-/// Expects that a replay of the first read ended so, with these first bytes of the report and of the image written.
+/// Expects that a replay of the first read ended so, with these first bytes of the report and of
+/// the image written.
 fn has_run(rt: &impl Abort, left: &Left, want: Status, report: &[u8], image: &[u8]) {
     assert_eq!(rt; left.outcome.status, want);
     assert!(rt; left.outcome.journal.len() == 4 && left.outcome.trace.len() == 4);

@@ -1,13 +1,13 @@
-//! The program: it names the files that the words say, runs the command on them, and ends with its code.
+//! The program: it names the files that the words say, runs the command on them, and ends with its
+//! code.
 #![tactic(auto)]
 
 mod files;
 
 use crate::files::{InputFile, OutputFile};
-use bd_outside::{ReadSource, WriteSink};
-use bd_top::{Status, code, fault_text, top};
+use bd_top::{Command, ReadSource, Status, WriteSink, code, fault_text, read_words, top};
 use std::env;
-use std::io::{ErrorKind, Write};
+use std::io::{ErrorKind, Write, empty, sink};
 use std::process::ExitCode;
 
 /// The words after the program's name. Words that are no text say no command.
@@ -26,32 +26,51 @@ fn words_of(rt: &HostRuntime) -> Result<Vec<String>, Status> {
     Ok(words)
 }
 
-/// The path at this place among the words, empty where there is none.
-fn path_at(words: &[String], place: usize) -> &str {
-    match words.get(place) {
-        Some(word) => word.as_str(),
-        None => "",
-    }
-}
-
-/// Runs the command that the words say on the files that they name.
-fn run(rt: &HostRuntime, words: &[String]) -> Status {
-    let mut image = ReadSource::new(InputFile::new(rt, path_at(words, 1)));
-    let mut script = ReadSource::new(InputFile::new(rt, path_at(words, 2)));
-    let mut out = WriteSink::new(rt.stdout());
-    let mut disk = WriteSink::new(OutputFile::new(rt, path_at(words, 3)));
+/// Replays the script at one path over the image at another, and writes the image to a third.
+fn run_replay(rt: &HostRuntime, words: &[String], image: &str, script: &str, out: &str) -> Status {
+    let mut image = ReadSource::new(InputFile::new(rt, image));
+    let mut script = ReadSource::new(InputFile::new(rt, script));
+    let mut report = WriteSink::new(rt.stdout());
+    let mut disk = WriteSink::new(OutputFile::new(rt, out));
     top(
         rt.alloc(),
         words,
         &mut image,
         &mut script,
-        &mut out,
+        &mut report,
         &mut disk,
     )
     .status
 }
 
-/// Prints the line of a fault to standard error; where that finds no memory or no place to go, nothing.
+/// Checks the image at a path. A check reads no script and writes no image.
+fn run_check(rt: &HostRuntime, words: &[String], image: &str) -> Status {
+    let mut image = ReadSource::new(InputFile::new(rt, image));
+    let mut no_script = ReadSource::new(empty());
+    let mut line = WriteSink::new(rt.stdout());
+    let mut no_disk = WriteSink::new(sink());
+    top(
+        rt.alloc(),
+        words,
+        &mut image,
+        &mut no_script,
+        &mut line,
+        &mut no_disk,
+    )
+    .status
+}
+
+/// Runs the command that the words say on the files that they name.
+fn run(rt: &HostRuntime, words: &[String]) -> Status {
+    match read_words(words) {
+        Some(Command::Replay { image, script, out }) => run_replay(rt, words, image, script, out),
+        Some(Command::Check { image }) => run_check(rt, words, image),
+        None => Status::Usage,
+    }
+}
+
+/// Prints the line of a fault to standard error; where that finds no memory or no place to go,
+/// nothing.
 fn tell(rt: &HostRuntime, status: &Status) {
     if *status == Status::Done {
         return;

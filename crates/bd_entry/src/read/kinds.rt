@@ -1,28 +1,29 @@
 //! Reading the fields of each kind of entry.
-ghost use Rattle.std.specs.Prelude.{IfOk};
-ghost use Rattle.bd_entry.specs.Reading.{ReadsFields};
+ghost use Rattle.std.specs.Prelude.{IfSome, IfNone, IfOk};
+ghost use Rattle.bd_entry.specs.Reading.{HasNoTargetFirst, HasTargetFirst, ReadsFields};
 ghost use Rattle.bd_entry.specs.declared.words.Word.TheVariants as word;
 
 use crate::entry::Entry;
-use crate::limits::{ASKED_PERMS, LAST_INDEX, PIECES};
+use crate::limits::ASKED_PERMS;
 use crate::read::fields::{
-    front_block, front_direction_and_way, front_piece, front_range, mode_and_how, name_and_number,
-    read_block, read_bytes,
+    front_block, front_direction, front_piece, front_range, front_way, read_block, read_bytes,
 };
-use crate::read::numbers::{front_number, front_two, one_number, three_numbers, two_numbers};
+use crate::read::numbers::{front_number, one_number, two_numbers};
 use crate::read::reasons::{read_found, read_reason};
 use crate::words::Word;
 use bd_base::{
-    At, BLOCKS, BlockNo, DESCRIPTORS, FILE_SIZE, FILES, Fd, FileId, List, OutOfMemory, PARTS,
-    PROCESSES, Part, Pid, Range,
+    At, BLOCKS, BlockNo, DESCRIPTORS, FILE_SIZE, FILES, Fd, FileId, LAST_INDEX, List, OutOfMemory,
+    PARTS, PIECES, PROCESSES, Part, Pid, Range, Way,
 };
+use bd_blocks::text::{front_name, read_mode_and_how};
 use std::alloc::Global;
 
 fn read_opened(at: At, text: &[u8]) -> Option<Entry>
     ensures { ReadsFields at word.Opened text.now result }
 {
-    let (file, fd, rest) = front_two(text, FILES - 1, DESCRIPTORS - 1)?;
-    let (mode, how) = mode_and_how(rest)?;
+    let (file, rest) = front_number(text, FILES - 1)?;
+    let (fd, rest) = front_number(rest, DESCRIPTORS - 1)?;
+    let (mode, how) = read_mode_and_how(rest)?;
     Some(Entry::Opened {
         at,
         file: FileId::new(file)?,
@@ -38,7 +39,10 @@ fn read_created(alloc: Global, at: At, text: &[u8]) -> Result<Option<Entry>, Out
     let Some((file, rest)) = front_number(text, FILES - 1) else {
         return Ok(None);
     };
-    let Some((name, perms)) = name_and_number(rest, ASKED_PERMS - 1) else {
+    let Some((name, rest)) = front_name(rest) else {
+        return Ok(None);
+    };
+    let Some(perms) = one_number(rest, ASKED_PERMS - 1) else {
         return Ok(None);
     };
     let Some(file) = FileId::new(file) else {
@@ -78,7 +82,8 @@ fn read_mapped(at: At, text: &[u8]) -> Option<Entry>
 fn read_cleared(at: At, text: &[u8]) -> Option<Entry>
     ensures { ReadsFields at word.Cleared text.now result }
 {
-    let (owner, fd, part) = three_numbers(text, PROCESSES - 1, DESCRIPTORS - 1, PARTS - 1)?;
+    let (owner, rest) = front_number(text, PROCESSES - 1)?;
+    let (fd, part) = two_numbers(rest, DESCRIPTORS - 1, PARTS - 1)?;
     Some(Entry::Cleared {
         at,
         owner: Pid::new(owner)?,
@@ -90,7 +95,8 @@ fn read_cleared(at: At, text: &[u8]) -> Option<Entry>
 fn read_detached(at: At, text: &[u8]) -> Option<Entry>
     ensures { ReadsFields at word.Detached text.now result }
 {
-    let (owner, fd, part) = three_numbers(text, PROCESSES - 1, DESCRIPTORS - 1, PARTS - 1)?;
+    let (owner, rest) = front_number(text, PROCESSES - 1)?;
+    let (fd, part) = two_numbers(rest, DESCRIPTORS - 1, PARTS - 1)?;
     Some(Entry::Detached {
         at,
         owner: Pid::new(owner)?,
@@ -99,26 +105,51 @@ fn read_detached(at: At, text: &[u8]) -> Option<Entry>
     })
 }
 
+/// What an access tells before its bytes.
+#[derive(Clone, Copy)]
+pub struct Target {
+    pub piece: u8,
+    pub fd: Fd,
+    pub file: FileId,
+    pub index: u32,
+    pub block: Option<BlockNo>,
+    pub range: Range,
+    pub wrote: bool,
+    pub way: Way,
+}
+
+// What an access tells before its bytes, in the first fields of a text, and what follows them.
+fn front_target(text: &[u8]) -> Option<(Target, &[u8])>
+    ensures some { IfSome result (λ f. HasTargetFirst text.now f.0 f.1.now) }
+    ensures none { IfNone result (HasNoTargetFirst text.now) }
+{
+    let (piece, rest) = front_number(text, PIECES - 1)?;
+    let (fd, rest) = front_number(rest, DESCRIPTORS - 1)?;
+    let (file, rest) = front_number(rest, FILES - 1)?;
+    let (index, rest) = front_number(rest, LAST_INDEX)?;
+    let Some((block, rest)) = front_block(rest) else {
+        return None;
+    };
+    let range = front_range(rest)?;
+    let (wrote, rest) = front_direction(range.rest)?;
+    let (way, rest) = front_way(rest)?;
+    let target = Target {
+        piece: piece as u8,
+        fd: Fd::new(fd)?,
+        file: FileId::new(file)?,
+        index: index as u32,
+        block,
+        range: Range::new(range.lo, range.hi)?,
+        wrote,
+        way,
+    };
+    Some((target, rest))
+}
+
 fn read_access(alloc: Global, at: At, text: &[u8]) -> Result<Option<Entry>, OutOfMemory>
     ensures { IfOk result (ReadsFields at word.Access text.now) }
 {
-    let Some((piece, fd, rest)) = front_two(text, PIECES - 1, DESCRIPTORS - 1) else {
-        return Ok(None);
-    };
-    let Some((file, index, rest)) = front_two(rest, FILES - 1, LAST_INDEX) else {
-        return Ok(None);
-    };
-    let Some((block, rest)) = front_block(rest) else {
-        return Ok(None);
-    };
-    let Some((lo, hi, rest)) = front_range(rest) else {
-        return Ok(None);
-    };
-    let Some((wrote, way, rest)) = front_direction_and_way(rest) else {
-        return Ok(None);
-    };
-    let (Some(fd), Some(file), Some(range)) = (Fd::new(fd), FileId::new(file), Range::new(lo, hi))
-    else {
+    let Some((target, rest)) = front_target(text) else {
         return Ok(None);
     };
     let Some(bytes) = read_bytes(alloc, rest)? else {
@@ -126,14 +157,14 @@ fn read_access(alloc: Global, at: At, text: &[u8]) -> Result<Option<Entry>, OutO
     };
     Ok(Some(Entry::Access {
         at,
-        piece: piece as u8,
-        fd,
-        file,
-        index: index as u32,
-        block,
-        range,
-        wrote,
-        way,
+        piece: target.piece,
+        fd: target.fd,
+        file: target.file,
+        index: target.index,
+        block: target.block,
+        range: target.range,
+        wrote: target.wrote,
+        way: target.way,
         bytes,
     }))
 }
@@ -152,7 +183,8 @@ fn read_missed(at: At, text: &[u8]) -> Option<Entry>
 fn read_extended(at: At, text: &[u8]) -> Option<Entry>
     ensures { ReadsFields at word.Extended text.now result }
 {
-    let (file, to, rest) = front_two(text, FILES - 1, FILE_SIZE)?;
+    let (file, rest) = front_number(text, FILES - 1)?;
+    let (to, rest) = front_number(rest, FILE_SIZE)?;
     Some(Entry::Extended {
         at,
         file: FileId::new(file)?,
@@ -164,7 +196,8 @@ fn read_extended(at: At, text: &[u8]) -> Option<Entry>
 fn read_released(at: At, text: &[u8]) -> Option<Entry>
     ensures { ReadsFields at word.Released text.now result }
 {
-    let (file, index, block) = three_numbers(text, FILES - 1, LAST_INDEX, BLOCKS - 1)?;
+    let (file, rest) = front_number(text, FILES - 1)?;
+    let (index, block) = two_numbers(rest, LAST_INDEX, BLOCKS - 1)?;
     Some(Entry::Released {
         at,
         file: FileId::new(file)?,

@@ -1,18 +1,18 @@
 //! Reading why a call is refused, and what a walk found.
 ghost use Rattle.std.specs.Prelude.{◌≤◌};
-ghost use Rattle.std.specs.Fmt.{decimal};
 ghost use Rattle.bd_base.specs.declared.limits.TheConstants.{BLOCK_SIZE};
+ghost use Rattle.bd_blocks.specs.Texts.{Reads, number_text};
 ghost use Rattle.bd_entry.specs.Ranges.{IsFound, IsReason};
-ghost use Rattle.bd_entry.specs.Reading.{HasNoNumbers, HasNumbers, Reads};
+ghost use Rattle.bd_entry.specs.Reading.{HasNoNumbers, HasNumbers};
 ghost use Rattle.bd_entry.specs.Texts.{beyond_text, found_text, reason_text};
 
-use crate::limits::POLICY_RULES;
-use crate::read::numbers::{one_number, split_at_byte, two_numbers};
-use bd_base::{BLOCK_SIZE, DESCRIPTORS, Fd, Found, PROCESSES, Pid, Reason};
+use crate::read::numbers::{one_number, two_numbers};
+use bd_base::{BLOCK_SIZE, DESCRIPTORS, Fd, Found, POLICY_RULES, PROCESSES, Pid, Reason};
+use bd_blocks::text::{SPACE, split_at_byte};
 
 // The number from 1 on that a text is.
-fn counted(text: &[u8], most: u64) -> Option<u64>
-    ensures { Reads decimal (λ n. (1 ≤ n) × (n ≤ most)) text.now result }
+fn read_count(text: &[u8], most: u64) -> Option<u64>
+    ensures { Reads number_text (λ n. (1 ≤ n) × (n ≤ most)) text.now result }
 {
     let number = one_number(text, most)?;
     if number == 0 {
@@ -25,11 +25,11 @@ fn counted(text: &[u8], most: u64) -> Option<u64>
 fn read_beyond(text: &[u8]) -> Option<u64>
     ensures { Reads beyond_text (λ n. (1 ≤ n) × (n ≤ BLOCK_SIZE)) text.now result }
 {
-    let (word, rest) = split_at_byte(text, b' ')?;
+    let (word, rest) = split_at_byte(text, SPACE)?;
     if word != b"beyond".as_slice() {
         return None;
     }
-    counted(rest, BLOCK_SIZE)
+    read_count(rest, BLOCK_SIZE)
 }
 
 /// What a walk found.
@@ -51,9 +51,9 @@ pub fn read_found(text: &[u8]) -> Option<Found>
 fn read_numbered(text: &[u8]) -> Option<Reason>
     ensures { Reads reason_text (λ r. IsReason r × HasNumbers r) text.now result }
 {
-    let (word, rest) = split_at_byte(text, b' ')?;
+    let (word, rest) = split_at_byte(text, SPACE)?;
     if word == b"denied".as_slice() {
-        Some(Reason::Denied(counted(rest, POLICY_RULES)? as u8))
+        Some(Reason::Denied(read_count(rest, POLICY_RULES)? as u8))
     } else if word == b"open-by".as_slice() {
         let (process, fd) = two_numbers(rest, PROCESSES - 1, DESCRIPTORS - 1)?;
         Some(Reason::OpenBy(Pid::new(process)?, Fd::new(fd)?))

@@ -4,10 +4,10 @@ ghost use Rattle.bd_base.specs.declared.limits.TheConstants.{BLOCK_SIZE, PARTS, 
 ghost use Rattle.bd_base.specs.declared.reason.Reason.{Reason};
 ghost use Rattle.bd_base.specs.Allocation.{last_block};
 ghost use Rattle.bd_base.specs.Files.{blocks_for};
-ghost use Rattle.bd_base.specs.Inodes.{AreValidFiles, blocks_at, grown, inode_at, no_file, without_last};
+ghost use Rattle.bd_base.specs.Inodes.{AreValidFiles, blocks_of_slot, grown_file, inode_at, no_file, without_last};
 ghost use Rattle.bd_fs.specs.Errors.{reason_of};
-ghost use Rattle.bd_fs.specs.Files.{file_of, growth_block_of, refusal_of, with_file};
-ghost use Rattle.bd_fs.specs.Kept.{is_extent_start};
+ghost use Rattle.bd_fs.specs.Files.{GrowsFile, file_with_id, growth_block_of, growth_refusal_of, with_file};
+ghost use Rattle.bd_base.specs.Extents.{is_extent_start};
 
 use super::Fs;
 use crate::errors::{GrowError, Refusal};
@@ -25,17 +25,18 @@ impl Fs {
     /// needs a 25th extent; OutOfMemory. After a refusal all is as before.
     pub fn grow_one(&mut self, file: FileId, to: u64) -> Result<Option<BlockNo>, GrowError>
         requires exists { IsSome (inode_at self.old.files file) }
-        requires larger { (file_of self.old file).size < to }
-        requires one_block { to ≤ BLOCK_SIZE * ((file_of self.old file).size / BLOCK_SIZE + 1) }
+        requires larger { (file_with_id self.old file).size < to }
+        requires one_block { to ≤ BLOCK_SIZE *
+            ((file_with_id self.old file).size / BLOCK_SIZE + 1) }
         ensures block { IfOk result (λ block. block ≡ growth_block_of self.old file) }
-        ensures grown { IfOk result (λ block. self.new ≡ with_file self.old file (Some (grown (file_of self.old file) block to))) }
-        ensures ok { OnOk result (refusal_of self.old file to ≡ None) }
+        ensures grown { IfOk result (λ block. GrowsFile self.old self.new file block to) }
+        ensures ok { OnOk result (growth_refusal_of self.old file to ≡ None) }
         ensures too_big { (result ≡ Err GrowError.TooBig)
-            ↔ (refusal_of self.old file to ≡ Some Reason.TooBig) }
+            ↔ (growth_refusal_of self.old file to ≡ Some Reason.TooBig) }
         ensures no_space { (result ≡ Err GrowError.NoSpace)
-            ↔ (refusal_of self.old file to ≡ Some Reason.NoSpace) }
+            ↔ (growth_refusal_of self.old file to ≡ Some Reason.NoSpace) }
         ensures extents { (result ≡ Err GrowError.Extents)
-            ↔ (refusal_of self.old file to ≡ Some Reason.Extents) }
+            ↔ (growth_refusal_of self.old file to ≡ Some Reason.Extents) }
         ensures err { OnErr result (self.new ≡ self.old) }
     {
         let Some(block) = self.plan(file, to)? else {
@@ -49,9 +50,10 @@ impl Fs {
     /// Why [`Fs::grow_one`] would refuse, were there memory.
     pub fn can_grow(&self, file: FileId, to: u64) -> Option<Reason>
         requires exists { IsSome (inode_at self.now.files file) }
-        requires larger { (file_of self.now file).size < to }
-        requires one_block { to ≤ BLOCK_SIZE * ((file_of self.now file).size / BLOCK_SIZE + 1) }
-        ensures { result ≡ refusal_of self.now file to }
+        requires larger { (file_with_id self.now file).size < to }
+        requires one_block { to ≤ BLOCK_SIZE *
+            ((file_with_id self.now file).size / BLOCK_SIZE + 1) }
+        ensures { result ≡ growth_refusal_of self.now file to }
     {
         match self.plan(file, to) {
             Ok(_) => None,
@@ -59,19 +61,32 @@ impl Fs {
         }
     }
 
+    /// The block that a growth of the file takes: None where its last block is not full, and where no block is free.
+    pub fn next_block(&self, file: FileId) -> Option<BlockNo>
+        requires { IsSome (inode_at self.now.files file) }
+        ensures { result ≡ growth_block_of self.now file }
+    {
+        if self.existing_inode(file).size % BLOCK_SIZE != 0 {
+            return None;
+        }
+        let last = last_of(&self.inodes[file.get() as usize]);
+        self.free.peek(last)
+    }
+
     /// Takes the last block of a file away, which becomes free, and answers it. The size becomes
     /// that of the blocks left.
     pub fn drop_last(&mut self, file: FileId) -> BlockNo
         requires exists { IsSome (inode_at self.old.files file) }
-        requires not_empty { 0 < length (file_of self.old file).blocks }
-        ensures block { last_block (file_of self.old file).blocks ≡ Some result }
-        ensures dropped { self.new ≡ with_file self.old file (Some (without_last (file_of self.old file))) }
+        requires not_empty { 0 < length (file_with_id self.old file).blocks }
+        ensures block { last_block (file_with_id self.old file).blocks ≡ Some result }
+        ensures dropped { self.new ≡ with_file self.old file
+            (Some (without_last (file_with_id self.old file))) }
     {
         let index = file.get() as usize;
         let block = drop_block(&mut self.inodes[index]);
         let last = last_of(&self.inodes[index]);
         if begins_extent(&last, &block) {
-            self.runs[index] -= 1;
+            self.counts[index] -= 1;
         }
         self.free.give_back(block);
         block
@@ -80,8 +95,9 @@ impl Fs {
     /// Gives a file this size, for which it has as many blocks as needed.
     pub fn set_size(&mut self, file: FileId, size: u64)
         requires exists { IsSome (inode_at self.old.files file) }
-        requires enough_blocks { length (file_of self.old file).blocks ≡ blocks_for size }
-        ensures { self.new ≡ with_file self.old file (Some (record (file_of self.old file) { size = size })) }
+        requires enough_blocks { length (file_with_id self.old file).blocks ≡ blocks_for size }
+        ensures { self.new ≡ with_file self.old file
+            (Some (record (file_with_id self.old file) { size = size })) }
     {
         resize(&mut self.inodes[file.get() as usize], size);
     }
@@ -90,51 +106,51 @@ impl Fs {
     fn plan(&self, file: FileId, to: u64) -> Result<Option<BlockNo>, Refusal>
         requires { IsSome (inode_at self.now.files file) }
         ensures planned { MatchResult result
-            (λ block. (refusal_of self.now file to ≡ None) × (block ≡ growth_block_of self.now file))
-            (λ r. refusal_of self.now file to ≡ Some (reason_of r)) }
+            (λ block. (growth_refusal_of self.now file to ≡ None) × (block ≡ growth_block_of self.now file))
+            (λ r. growth_refusal_of self.now file to ≡ Some (reason_of r)) }
         ensures valid { OnOk result (AreValidFiles self.now.total self.now.files) }
     {
         if to > FILE_SIZE {
             return Err(Refusal::TooBig);
         }
         let index = file.get() as usize;
-        if self.existing(file).size % BLOCK_SIZE != 0 {
+        if self.existing_inode(file).size % BLOCK_SIZE != 0 {
             return Ok(None);
         }
         let last = last_of(&self.inodes[index]);
-        let before = last;
-        let Some(block) = self.free.peek(before) else {
+        let after = last;
+        let Some(block) = self.free.peek(after) else {
             return Err(Refusal::NoSpace);
         };
-        if self.runs[index] == EXTENTS && begins_extent(&last, &block) {
+        if self.counts[index] == EXTENTS && begins_extent(&last, &block) {
             return Err(Refusal::Extents);
         }
         Ok(Some(block))
     }
 
-    /// Appends the block that an allocation takes, and gives the file this size.
+    /// Appends the block that an allocation takes and that was looked up, and gives the file this size.
     fn add_block(&mut self, file: FileId, block: BlockNo, size: u64) -> Result<(), OutOfMemory>
         requires exists { IsSome (inode_at self.old.files file) }
-        requires enough_blocks { length (file_of self.old file).blocks + 1 ≡ blocks_for size }
-        requires allowed { refusal_of self.old file size ≡ None }
+        requires enough_blocks { length (file_with_id self.old file).blocks + 1 ≡ blocks_for size }
+        requires allowed { growth_refusal_of self.old file size ≡ None }
         requires planned { growth_block_of self.old file ≡ Some block }
-        ensures grown { OnOk result (self.new ≡ with_file self.old file (Some (grown (file_of self.old file) (Some block) size))) }
+        ensures grown { OnOk result (GrowsFile self.old self.new file (Some block) size) }
         ensures err { OnErr result (self.new ≡ self.old) }
     {
         let index = file.get() as usize;
         let last = last_of(&self.inodes[index]);
         push_block(&mut self.inodes[index], block, size)?;
         if begins_extent(&last, &block) {
-            self.runs[index] += 1;
+            self.counts[index] += 1;
         }
-        let _ = self.free.take(last);
+        self.free.remove(block);
         Ok(())
     }
 }
 
 /// The last block of a file, if any.
 fn last_of(file: &Option<Inode>) -> Option<BlockNo>
-    ensures { result ≡ last_block (blocks_at file.now) }
+    ensures { result ≡ last_block (blocks_of_slot file.now) }
 {
     file.as_ref()?.blocks.as_slice().last().copied()
 }
@@ -153,7 +169,8 @@ pub fn begins_extent(last: &Option<BlockNo>, block: &BlockNo) -> bool
 /// Appends a block to a file, and gives it this size.
 fn push_block(file: &mut Option<Inode>, block: BlockNo, size: u64) -> Result<(), OutOfMemory>
     requires { IsSome file.old }
-    ensures ok { OnOk result (file.new ≡ Some (grown (unwrap_or file.old no_file) (Some block) size)) }
+    ensures ok { OnOk result
+        (file.new ≡ Some (grown_file (unwrap_or file.old no_file) (Some block) size)) }
     ensures err { OnErr result (file.new ≡ file.old) }
 {
     if let Some(inode) = file {
@@ -166,9 +183,9 @@ fn push_block(file: &mut Option<Inode>, block: BlockNo, size: u64) -> Result<(),
 /// Takes the last block of a file off.
 fn drop_block(file: &mut Option<Inode>) -> BlockNo
     requires exists { IsSome file.old }
-    requires not_empty { 0 < length (blocks_at file.old) }
-    requires in_range { length (blocks_at file.old) ≤ PARTS * PART_BLOCKS }
-    ensures block { last_block (blocks_at file.old) ≡ Some result }
+    requires not_empty { 0 < length (blocks_of_slot file.old) }
+    requires in_range { length (blocks_of_slot file.old) ≤ PARTS * PART_BLOCKS }
+    ensures block { last_block (blocks_of_slot file.old) ≡ Some result }
     ensures dropped { file.new ≡ Some (without_last (unwrap_or file.old no_file)) }
 {
     match file {

@@ -1,16 +1,17 @@
 //! The files of an image as a file system.
-ghost use Rattle.std.specs.Prelude.{◌≡◌, ℕ, ◌<◌, ◌≤◌, ◌||◌, false, not, nat_eq, List, All, IfOk, count_by, length, slice_index, slice_index_or};
+ghost use Rattle.std.specs.Prelude.{◌≡◌, ℕ, ◌<◌, ◌≤◌, ◌&&◌, List, All, IfOk, length, slice_index};
 ghost use Rattle.std.specs.FinSet as set;
 ghost use Rattle.std.specs.Str.{bytes_eq};
 ghost use Rattle.indexmap.specs.IndexMap.{get_by};
 ghost use Rattle.bd_base.specs.declared.limits.TheConstants.{BLOCKS, EXTENTS, FILES};
-ghost use Rattle.bd_base.specs.Allocation.{times_listed};
+ghost use Rattle.bd_base.specs.Allocation.{is_data_block};
 ghost use Rattle.bd_base.specs.Extents.{extents_of};
-ghost use Rattle.bd_base.specs.Inodes.{AreValidFiles, NamesDiffer, block_lists, blocks_at, id_of, inode_at, is_free};
+ghost use Rattle.bd_base.specs.Inodes.{AreValidFiles, NamesDiffer, blocks_of_slot, id_of, inode_at, is_free};
+ghost use Rattle.bd_fs.specs.Kept.{is_none_of};
 
 use super::Fs;
 use super::growth::begins_extent;
-use bd_base::{BLOCKS, BlockNo, FileId, Inode, InodeList, OutOfMemory};
+use bd_base::{BlockNo, FileId, Inode, InodeList, OutOfMemory, data_start};
 use bd_extents::FreeSet;
 use indexmap::IndexMap;
 use std::alloc::Global;
@@ -25,13 +26,13 @@ impl Fs {
     {
         let files = inodes.as_slice();
         let names = names_of(alloc, files)?;
-        let runs = runs_of(alloc, files)?;
+        let counts = counts_of(alloc, files)?;
         let free = free_blocks_of(alloc, total, files)?;
         Ok(Fs {
             alloc,
             total,
             inodes: inodes.into_vec(),
-            runs,
+            counts,
             free,
             names,
         })
@@ -45,7 +46,8 @@ fn names_of(
 ) -> Result<IndexMap<Vec<u8>, FileId>, OutOfMemory>
     requires few_files { length files.now ≤ FILES }
     requires names_differ { NamesDiffer files.now }
-    ensures { IfOk result (λ names. (name : List ℕ) → get_by (λ key. bytes_eq name key.items) names ≡ id_of name files.now) }
+    ensures { IfOk result (λ names. (name : List ℕ) →
+        get_by (λ key. bytes_eq name key.items) names ≡ id_of name files.now) }
 {
     let mut names = IndexMap::new(alloc);
     for (id, file) in files.iter().enumerate() {
@@ -59,21 +61,22 @@ fn names_of(
 }
 
 /// How many extents each file has.
-fn runs_of(alloc: Global, files: &[Option<Inode>]) -> Result<Vec<u8>, OutOfMemory>
-    requires { All (λ file. length (extents_of (blocks_at file)) ≤ EXTENTS) files.now }
-    ensures counted { IfOk result (λ runs. (id : ℕ) → slice_index runs.items id ≡ length (extents_of (blocks_at (inode_at files.now id)))) }
-    ensures all { IfOk result (λ runs. length runs.items ≡ length files.now) }
+fn counts_of(alloc: Global, files: &[Option<Inode>]) -> Result<Vec<u8>, OutOfMemory>
+    requires { All (λ file. length (extents_of (blocks_of_slot file)) ≤ EXTENTS) files.now }
+    ensures counted { IfOk result (λ counts. (id : ℕ) →
+        slice_index counts.items id ≡ length (extents_of (blocks_of_slot (inode_at files.now id)))) }
+    ensures all { IfOk result (λ counts. length counts.items ≡ length files.now) }
 {
-    let mut runs = Vec::new(alloc);
+    let mut counts = Vec::new(alloc);
     for file in files {
-        runs.push(extents_in(file) as u8)?;
+        counts.push(extents_in(file) as u8)?;
     }
-    Ok(runs)
+    Ok(counts)
 }
 
 /// How many extents a file has.
 fn extents_in(file: &Option<Inode>) -> usize
-    ensures { result ≡ length (extents_of (blocks_at file.now)) }
+    ensures { result ≡ length (extents_of (blocks_of_slot file.now)) }
 {
     match file {
         Some(inode) => extent_count(inode.blocks.as_slice()),
@@ -105,44 +108,41 @@ fn free_blocks_of(
 ) -> Result<FreeSet, OutOfMemory>
     requires { AreValidFiles total files.now }
     ensures total { IfOk result (λ free. free.total ≡ total) }
-    ensures free { IfOk result (λ free. (block : ℕ) → set.contains free.free block ≡ is_free total files.now block) }
+    ensures free { IfOk result (λ free. (block : ℕ) →
+        set.contains free.free block ≡ is_free total files.now block) }
 {
-    let owned = owned_blocks(alloc, files)?;
-    let mut free = FreeSet::new(alloc, total)?;
-    let first = 2 + files.len() as u32 / 16;
-    for number in first..total {
-        if !owned[number as usize] {
-            let block = BlockNo::new(u64::from(number)).unwrap();
-            free.give_back(block);
+    let mut free = data_blocks(alloc, total, files.len())?;
+    for file in files {
+        if let Some(inode) = file {
+            remove_blocks(&mut free, inode.blocks.as_slice());
         }
     }
     Ok(free)
 }
 
-/// Whether some file has a block, for each block.
-fn owned_blocks(alloc: Global, files: &[Option<Inode>]) -> Result<Vec<bool>, OutOfMemory>
-    ensures all { IfOk result (λ owned. length owned.items ≡ BLOCKS) }
-    ensures owned { IfOk result (λ owned. (block : ℕ) → block < BLOCKS →
-        slice_index_or owned.items block false ≡ not (nat_eq (times_listed (block_lists files.now) block) 0)) }
+/// The data blocks of a volume of `total` blocks with room for `capacity` files.
+fn data_blocks(alloc: Global, total: u32, capacity: usize) -> Result<FreeSet, OutOfMemory>
+    requires { total ≤ BLOCKS }
+    ensures total { IfOk result (λ free. free.total ≡ total) }
+    ensures free { IfOk result (λ free. (block : ℕ) →
+        set.contains free.free block ≡ is_data_block total capacity block) }
 {
-    let mut owned = vec![in alloc; false; BLOCKS as usize]?;
-    for file in files {
-        if let Some(inode) = file {
-            mark_blocks(&mut owned, inode.blocks.as_slice());
-        }
+    let mut free = FreeSet::new(alloc, total)?;
+    for number in data_start(capacity as u64)..u64::from(total) {
+        let block = BlockNo::new(number).unwrap();
+        free.give_back(block);
     }
-    Ok(owned)
+    Ok(free)
 }
 
-/// Marks these blocks as owned.
-fn mark_blocks(owned: &mut [bool], blocks: &[BlockNo])
-    requires { length owned.old ≡ BLOCKS }
-    ensures { (block : ℕ) → block < BLOCKS →
-        slice_index_or owned.new block false
-        ≡ (slice_index_or owned.old block false || not (nat_eq (count_by (nat_eq block) blocks.now) 0)) }
+/// Makes these blocks no longer free.
+fn remove_blocks(free: &mut FreeSet, blocks: &[BlockNo])
+    requires { All (λ block. block < free.old.total) blocks.now }
+    ensures total { free.new.total ≡ free.old.total }
+    ensures free { (block : ℕ) →
+        set.contains free.new.free block ≡ (set.contains free.old.free block && is_none_of blocks.now block) }
 {
     for block in blocks {
-        let block = *block;
-        owned[block.get() as usize] = true;
+        free.remove(*block);
     }
 }

@@ -1,7 +1,7 @@
 //! Files that are made, asked for, grown and shrunk, through the public calls.
 ghost use Rattle.std.specs.Prelude.{◌≡◌, ◌<◌, ◌≤◌, IfOk, IsSome, None, length, replicate};
 ghost use Rattle.bd_base.specs.declared.limits.TheConstants.{BLOCKS, FILE_SIZE};
-ghost use Rattle.bd_base.specs.Inodes.{file_at, inode_at};
+ghost use Rattle.bd_base.specs.Inodes.{existing_file, inode_at};
 
 use super::Fs;
 use crate::errors::{CreateError, GrowError};
@@ -38,19 +38,19 @@ fn name(alloc: Global, bytes: &[u8]) -> Result<Name, OutOfMemory> {
 }
 
 /// The size of a file that exists.
-fn size_of(rt: &impl Abort, fs: &Fs, file: FileId) -> u64
+fn file_size(rt: &impl Abort, fs: &Fs, file: FileId) -> u64
     ensures exists { IsSome (inode_at fs.now.files file) }
-    ensures size { result ≡ (file_at fs.now.files file).size }
+    ensures size { result ≡ (existing_file fs.now.files file).size }
     ensures in_range { result ≤ FILE_SIZE }
 {
-    let size = fs.inode(file).expect(rt, "the file exists").size;
-    assert!(rt; size <= FILE_SIZE);
-    size
+    let inode = fs.inode(file).expect(rt, "the file exists");
+    assert!(rt; inode.size <= FILE_SIZE);
+    inode.size
 }
 
 /// Lets a file of whole blocks grow by one, and expects this answer.
 fn grow(rt: &impl Abort, fs: &mut Fs, number: u64, want: Result<Option<BlockNo>, GrowError>) {
-    let size = size_of(rt, fs, id(rt, number));
+    let size = file_size(rt, fs, id(rt, number));
     grow_to(rt, fs, number, size.wrapping_add(4096), want);
 }
 
@@ -64,7 +64,7 @@ fn grow_to(
 ) {
     let file = id(rt, number);
     let growing = file;
-    let size = size_of(rt, fs, file);
+    let size = file_size(rt, fs, file);
     assert!(rt; size < to && to <= 4096 * (size / 4096 + 1));
     assert_eq!(rt; fs.grow_one(growing, to), want);
 }
@@ -73,7 +73,7 @@ fn grow_to(
 fn refuses(rt: &impl Abort, fs: &Fs, number: u64, want: Option<Reason>) {
     let file = id(rt, number);
     let growing = file;
-    let size = size_of(rt, fs, file);
+    let size = file_size(rt, fs, file);
     assert!(rt; size % 4096 == 0);
     assert_eq!(rt; fs.can_grow(growing, size + 4096), want);
 }
@@ -99,7 +99,7 @@ fn resize(rt: &impl Abort, fs: &mut Fs, number: u64, size: u64) {
 
 /// Expects this size of a file.
 fn has_size(rt: &impl Abort, fs: &Fs, number: u64, want: u64) {
-    assert_eq!(rt; size_of(rt, fs, id(rt, number)), want);
+    assert_eq!(rt; file_size(rt, fs, id(rt, number)), want);
 }
 
 /// Takes a file without blocks away.
@@ -158,7 +158,7 @@ fn finds(
 fn answers(rt: &impl Abort, fs: &Fs, uid: u32, number: u64, ask: Ask, want: May) {
     let file = id(rt, number);
     let asked = file;
-    size_of(rt, fs, file);
+    file_size(rt, fs, file);
     assert_eq!(rt; fs.may(uid, asked, ask), want);
 }
 

@@ -2,8 +2,8 @@
 ghost use Rattle.std.specs.Prelude.{◌≡◌, ℕ, ◌+◌, ◌*◌, ◌<◌, ◌≤◌, ◌↔◌, ◌⊎◌, length, IfOk, IsTrue, MatchOption, OnOk};
 ghost use Rattle.bd_base.specs.declared.limits.TheConstants.{BLOCK_SIZE, EXTENTS};
 ghost use Rattle.std.specs.List.{Contains};
-ghost use Rattle.bd_image.specs.Layout.{blocks_at, extent_count, inode_count, is_marked};
-ghost use Rattle.bd_image.specs.Rules.{Bitmap, BlockCount, ExtentCount, ExtentRange, HasRecords, IsLeastBreak, Obeys};
+ghost use Rattle.bd_image.specs.Layout.{blocks_in_image, extent_count, inode_count, is_marked};
+ghost use Rattle.bd_image.specs.Rules.{Bitmap, BlockCount, ExtentCount, ExtentRange, HasRecords, TellsBreak, Obeys};
 ghost use Rattle.bd_image.specs.Checks.{IsInside};
 ghost use Rattle.bd_image.specs.Sharing.{IsTakenIn, MarksTaken};
 
@@ -25,7 +25,8 @@ fn take_file(bytes: &[u8], j: u64, taken: &mut [bool])
     requires inside { (e : ℕ) → e < extent_count bytes.now j → IsInside bytes.now j e }
     requires total { Obeys bytes.now BlockCount }
     requires long { length taken.old ≡ 8 * BLOCK_SIZE }
-    ensures { (x : ℕ) → x < 8 * BLOCK_SIZE → IsTakenIn taken.new x ↔ (IsTakenIn taken.old x ⊎ Contains (blocks_at bytes.now j) x) }
+    ensures { (x : ℕ) → x < 8 * BLOCK_SIZE →
+        IsTakenIn taken.new x ↔ (IsTakenIn taken.old x ⊎ Contains (blocks_in_image bytes.now j) x) }
 {
     for e in 0..extent_count(bytes, j) {
         take_blocks(taken, extent_at(bytes, j, e));
@@ -67,7 +68,7 @@ fn is_marked(bytes: &[u8], x: u64) -> bool
 fn first_wrong(bytes: &[u8], taken: &[bool]) -> Option<u64>
     requires long { 8192 ≤ length bytes.now }
     requires taken { MarksTaken bytes.now taken.now }
-    ensures { MatchOption result (Obeys bytes.now Bitmap) (λ place. IsLeastBreak bytes.now Bitmap place) }
+    ensures { TellsBreak bytes.now Bitmap result }
 {
     for x in 0..BITS {
         if is_marked(bytes, x) != taken[x as usize] {
@@ -92,8 +93,7 @@ pub(crate) fn check_bitmap(alloc: Global, bytes: &[u8]) -> Result<Option<u64>, O
     requires total { Obeys bytes.now BlockCount }
     requires counts { Obeys bytes.now ExtentCount }
     requires ranges { Obeys bytes.now ExtentRange }
-    ensures { IfOk result
-        (λ found. MatchOption found (Obeys bytes.now Bitmap) (λ place. IsLeastBreak bytes.now Bitmap place)) }
+    ensures { IfOk result (TellsBreak bytes.now Bitmap) }
 {
     let mut taken = empty_map(alloc, BITS as usize)?;
     mark_taken(bytes, &mut taken);

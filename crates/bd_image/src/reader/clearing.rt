@@ -20,7 +20,8 @@ fn clear_front(bytes: &mut [u8], count: usize)
 /// These bytes with zeros for the metadata. It takes no memory.
 pub(crate) fn without_metadata(bytes: Bytes) -> Bytes
     requires { HasRecords bytes }
-    ensures { let metadata = BLOCK_SIZE * data_start (inode_count bytes) in result ≡ replicate metadata 0 ++ drop metadata bytes }
+    ensures { let metadata = BLOCK_SIZE * data_start (inode_count bytes) in
+        result ≡ replicate metadata 0 ++ drop metadata bytes }
 {
     let metadata = BLOCK_SIZE * data_start(bytes.as_slice());
     let mut all = bytes.into_vec();

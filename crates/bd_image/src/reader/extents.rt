@@ -3,12 +3,13 @@ ghost use Rattle.std.specs.Prelude.{◌≡◌, ◌≢◌, ℕ, ◌+◌, ◌*◌,
 ghost use Rattle.bd_base.specs.declared.limits.TheConstants.{EXTENTS};
 ghost use Rattle.bd_base.specs.Files.{data_start};
 ghost use Rattle.bd_image.specs.Checks.{HasNoJoin, IsFirstFault, IsFirstJoin, IsInside};
-ghost use Rattle.bd_image.specs.Layout.{block_count, blocks_at, extent_at, extent_count, inode_count, used_mark};
-ghost use Rattle.bd_image.specs.Rules.{BlockCount, ExtentCount, ExtentJoins, ExtentRange, HasRecords, IsInDataArea, IsLeastBreak, Obeys, Size};
+ghost use Rattle.bd_image.specs.Layout.{block_count, blocks_in_image, extent_at, extent_count, inode_count, used_mark};
+ghost use Rattle.bd_image.specs.Rules.{BlockCount, ExtentCount, ExtentJoins, ExtentRange, HasRecords, IsInDataArea, TellsBreak, Obeys, Size};
 
 use crate::layout::SIZE_FIELD;
 use crate::reader::fields::{
-    block_count, extent_at, extent_count, extent_place, inode_count, is_used, record_place, size_at,
+    block_count, extent_at, extent_count, extent_place, inode_count, is_used, record_place,
+    size_in_image,
 };
 use bd_base::{BLOCK_SIZE, Extent, FILE_SIZE};
 
@@ -17,7 +18,7 @@ pub(crate) fn data_start(bytes: &[u8]) -> u64
     requires { HasRecords bytes.now }
     ensures { result ≡ data_start (inode_count bytes.now) }
 {
-    2 + inode_count(bytes) / 16
+    bd_base::data_start(inode_count(bytes))
 }
 
 /// Whether the extent lies in the data area.
@@ -50,7 +51,7 @@ fn first_outside(bytes: &[u8], j: u64) -> Option<u64>
 pub(crate) fn check_extent_ranges(bytes: &[u8]) -> Option<u64>
     requires image { HasRecords bytes.now }
     requires counts { Obeys bytes.now ExtentCount }
-    ensures { MatchOption result (Obeys bytes.now ExtentRange) (λ place. IsLeastBreak bytes.now ExtentRange place) }
+    ensures { TellsBreak bytes.now ExtentRange result }
 {
     for j in 0..inode_count(bytes) {
         if is_used(bytes, j) {
@@ -67,7 +68,8 @@ fn first_joined(bytes: &[u8], j: u64) -> Option<u64>
     requires image { HasRecords bytes.now }
     requires record { j < inode_count bytes.now }
     requires few { extent_count bytes.now j ≤ EXTENTS }
-    ensures { MatchOption result (HasNoJoin bytes.now j (extent_count bytes.now j)) (IsFirstJoin bytes.now j) }
+    ensures { MatchOption result (HasNoJoin bytes.now j (extent_count bytes.now j))
+        (IsFirstJoin bytes.now j) }
 {
     for e in 1..extent_count(bytes, j) {
         let before = extent_at(bytes, j, e - 1);
@@ -83,7 +85,7 @@ fn first_joined(bytes: &[u8], j: u64) -> Option<u64>
 pub(crate) fn check_extent_joins(bytes: &[u8]) -> Option<u64>
     requires image { HasRecords bytes.now }
     requires counts { Obeys bytes.now ExtentCount }
-    ensures { MatchOption result (Obeys bytes.now ExtentJoins) (λ place. IsLeastBreak bytes.now ExtentJoins place) }
+    ensures { TellsBreak bytes.now ExtentJoins result }
 {
     for j in 0..inode_count(bytes) {
         if is_used(bytes, j) {
@@ -100,7 +102,7 @@ pub(crate) fn block_total(bytes: &[u8], j: u64) -> u64
     requires image { HasRecords bytes.now }
     requires record { j < inode_count bytes.now }
     requires few { extent_count bytes.now j ≤ EXTENTS }
-    ensures { result ≡ length (blocks_at bytes.now j) }
+    ensures { result ≡ length (blocks_in_image bytes.now j) }
 {
     let mut total = 0;
     for e in 0..extent_count(bytes, j) {
@@ -113,11 +115,11 @@ pub(crate) fn block_total(bytes: &[u8], j: u64) -> u64
 pub(crate) fn check_sizes(bytes: &[u8]) -> Option<u64>
     requires image { HasRecords bytes.now }
     requires counts { Obeys bytes.now ExtentCount }
-    ensures { MatchOption result (Obeys bytes.now Size) (λ place. IsLeastBreak bytes.now Size place) }
+    ensures { TellsBreak bytes.now Size result }
 {
     for j in 0..inode_count(bytes) {
         if is_used(bytes, j) {
-            let size = size_at(bytes, j);
+            let size = size_in_image(bytes, j);
             if size > FILE_SIZE || block_total(bytes, j) != size.div_ceil(BLOCK_SIZE) {
                 return Some(record_place(j) + SIZE_FIELD);
             }

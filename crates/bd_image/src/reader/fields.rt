@@ -1,7 +1,7 @@
 //! The fields of an image, read from its bytes. All numbers are little-endian.
 ghost use Rattle.std.specs.Prelude.{◌≡◌, ℕ, ◌+◌, ◌*◌, ◌<◌, ◌≤◌, ◌↔◌, IsTrue, length};
 ghost use Rattle.bd_base.specs.declared.limits.TheConstants.{EXTENTS, FILES};
-ghost use Rattle.bd_image.specs.Layout.{block_count, byte_at, extent_at, extent_count, extent_place, inode_count, name_field, number_at, owner_at, perms_at, record_place, size_at, used_mark, version};
+ghost use Rattle.bd_image.specs.Layout.{block_count, byte_at, extent_at, extent_count, extent_place, inode_count, name_field, number_at, owner_at, perms_at, record_place, size_in_image, used_mark, version};
 ghost use Rattle.bd_image.specs.Rules.{HasRecords};
 
 use crate::layout::{
@@ -121,10 +121,10 @@ pub(crate) fn owner_at(bytes: &[u8], j: u64) -> u32
 }
 
 /// The size of record `j` in bytes.
-pub(crate) fn size_at(bytes: &[u8], j: u64) -> u64
+pub(crate) fn size_in_image(bytes: &[u8], j: u64) -> u64
     requires image { HasRecords bytes.now }
     requires record { j < inode_count bytes.now }
-    ensures { result ≡ size_at bytes.now j }
+    ensures { result ≡ size_in_image bytes.now j }
 {
     read_u64(bytes, record_place(j) + SIZE_FIELD)
 }

@@ -3,12 +3,12 @@ ghost use Rattle.std.specs.Prelude.{◌≡◌, ℕ, ◌+◌, ◌<◌, ◌≤◌,
 ghost use Rattle.bd_base.specs.declared.limits.TheConstants.{EXTENTS};
 ghost use Rattle.std.specs.List.{range_with_len, take_while};
 ghost use Rattle.bd_image.specs.Checks.{IsInside};
-ghost use Rattle.bd_image.specs.Layout.{blocks_at, extent_count, extents_at, inode_count, name_at, used_mark};
+ghost use Rattle.bd_image.specs.Layout.{blocks_in_image, extent_count, extents_at, inode_count, name_at, used_mark};
 ghost use Rattle.bd_image.specs.Rules.{BlockCount, ExtentCount, ExtentRange, HasRecords, Obeys};
-ghost use Rattle.bd_image.specs.Volumes.{inode_at};
+ghost use Rattle.bd_image.specs.Volumes.{inode_in_image};
 
 use crate::reader::fields::{
-    extent_at, extent_count, inode_count, is_used, name_field, owner_at, perms_at, size_at,
+    extent_at, extent_count, inode_count, is_used, name_field, owner_at, perms_at, size_in_image,
 };
 use bd_base::{BlockList, ExtentList, Inode, InodeList, List, Name, OutOfMemory};
 use bd_extents::blocks_of;
@@ -56,7 +56,7 @@ fn read_blocks(alloc: Global, bytes: &[u8], j: u64) -> Result<BlockList, OutOfMe
     requires record { j < inode_count bytes.now }
     requires few { extent_count bytes.now j ≤ EXTENTS }
     requires inside { (e : ℕ) → e < extent_count bytes.now j → IsInside bytes.now j e }
-    ensures { IfOk result (λ blocks. blocks ≡ blocks_at bytes.now j) }
+    ensures { IfOk result (λ blocks. blocks ≡ blocks_in_image bytes.now j) }
 {
     let extents = read_extents(alloc, bytes, j)?;
     blocks_of(alloc, extents.as_slice())
@@ -69,7 +69,7 @@ fn read_file(alloc: Global, bytes: &[u8], j: u64) -> Result<Option<Inode>, OutOf
     requires record { j < inode_count bytes.now }
     requires counts { Obeys bytes.now ExtentCount }
     requires ranges { Obeys bytes.now ExtentRange }
-    ensures { IfOk result (λ file. file ≡ inode_at bytes.now j) }
+    ensures { IfOk result (λ file. file ≡ inode_in_image bytes.now j) }
 {
     if !is_used(bytes, j) {
         return Ok(None);
@@ -78,7 +78,7 @@ fn read_file(alloc: Global, bytes: &[u8], j: u64) -> Result<Option<Inode>, OutOf
         name: read_name(alloc, bytes, j)?,
         owner: owner_at(bytes, j),
         perms: perms_at(bytes, j),
-        size: size_at(bytes, j),
+        size: size_in_image(bytes, j),
         blocks: read_blocks(alloc, bytes, j)?,
     }))
 }
@@ -89,7 +89,8 @@ pub(crate) fn read_files(alloc: Global, bytes: &[u8]) -> Result<InodeList, OutOf
     requires total { Obeys bytes.now BlockCount }
     requires counts { Obeys bytes.now ExtentCount }
     requires ranges { Obeys bytes.now ExtentRange }
-    ensures { IfOk result (λ files. files ≡ map (inode_at bytes.now) (range_with_len 0 (inode_count bytes.now))) }
+    ensures { IfOk result (λ files.
+        files ≡ map (inode_in_image bytes.now) (range_with_len 0 (inode_count bytes.now))) }
 {
     let mut files = List::new(alloc);
     for j in 0..inode_count(bytes) {

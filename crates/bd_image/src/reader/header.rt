@@ -1,7 +1,7 @@
 //! The rules of the first block.
 ghost use Rattle.std.specs.Prelude.{◌≡◌, ℕ, ◌+◌, ◌*◌, ◌<◌, ◌≤◌, length, MatchOption};
 ghost use Rattle.bd_image.specs.Layout.{byte_at};
-ghost use Rattle.bd_image.specs.Rules.{BlockCount, HeaderRest, InodeCount, IsLeastBreak, Length, Magic, Obeys, Version};
+ghost use Rattle.bd_image.specs.Rules.{BlockCount, HeaderRest, InodeCount, TellsBreak, Length, Magic, Obeys, Version};
 
 use crate::layout::{
     BITMAP_PLACE, HEADER_BYTES, INODES_PLACE, LEAST_INODES, LEAST_LENGTH, LENGTH_PLACE, MAGIC,
@@ -13,7 +13,7 @@ use bd_base::{BLOCK_SIZE, FILES, IMAGE_SIZE};
 
 /// The length is that of whole blocks, and neither too small nor too large.
 pub(crate) fn check_length(bytes: &[u8]) -> Option<u64>
-    ensures { MatchOption result (Obeys bytes.now Length) (λ place. IsLeastBreak bytes.now Length place) }
+    ensures { TellsBreak bytes.now Length result }
 {
     let length = bytes.len() as u64;
     if length % BLOCK_SIZE == 0 && LEAST_LENGTH <= length && length <= IMAGE_SIZE {
@@ -26,7 +26,7 @@ pub(crate) fn check_length(bytes: &[u8]) -> Option<u64>
 /// The image begins as images do.
 pub(crate) fn check_magic(bytes: &[u8]) -> Option<u64>
     requires { Obeys bytes.now Length }
-    ensures { MatchOption result (Obeys bytes.now Magic) (λ place. IsLeastBreak bytes.now Magic place) }
+    ensures { TellsBreak bytes.now Magic result }
 {
     if bytes.starts_with(&MAGIC) {
         None
@@ -38,7 +38,7 @@ pub(crate) fn check_magic(bytes: &[u8]) -> Option<u64>
 /// The version is the one that is read here.
 pub(crate) fn check_version(bytes: &[u8]) -> Option<u64>
     requires { Obeys bytes.now Length }
-    ensures { MatchOption result (Obeys bytes.now Version) (λ place. IsLeastBreak bytes.now Version place) }
+    ensures { TellsBreak bytes.now Version result }
 {
     if version(bytes) == VERSION {
         None
@@ -50,7 +50,7 @@ pub(crate) fn check_version(bytes: &[u8]) -> Option<u64>
 /// The number of blocks is that of the image.
 pub(crate) fn check_block_count(bytes: &[u8]) -> Option<u64>
     requires { Obeys bytes.now Length }
-    ensures { MatchOption result (Obeys bytes.now BlockCount) (λ place. IsLeastBreak bytes.now BlockCount place) }
+    ensures { TellsBreak bytes.now BlockCount result }
 {
     if u64::from(block_count(bytes)) * BLOCK_SIZE == bytes.len() as u64 {
         None
@@ -62,7 +62,7 @@ pub(crate) fn check_block_count(bytes: &[u8]) -> Option<u64>
 /// The records fill whole blocks, and are neither too few nor too many.
 pub(crate) fn check_inode_count(bytes: &[u8]) -> Option<u64>
     requires { Obeys bytes.now Length }
-    ensures { MatchOption result (Obeys bytes.now InodeCount) (λ place. IsLeastBreak bytes.now InodeCount place) }
+    ensures { TellsBreak bytes.now InodeCount result }
 {
     let count = inode_count(bytes);
     if count % LEAST_INODES == 0 && LEAST_INODES <= count && count <= FILES {
@@ -75,7 +75,7 @@ pub(crate) fn check_inode_count(bytes: &[u8]) -> Option<u64>
 /// The rest of the first block is zero.
 pub(crate) fn check_header_rest(bytes: &[u8]) -> Option<u64>
     requires { Obeys bytes.now Length }
-    ensures { MatchOption result (Obeys bytes.now HeaderRest) (λ place. IsLeastBreak bytes.now HeaderRest place) }
+    ensures { TellsBreak bytes.now HeaderRest result }
 {
     first_nonzero(bytes, HEADER_BYTES, BITMAP_PLACE)
 }

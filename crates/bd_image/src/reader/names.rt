@@ -3,7 +3,7 @@ ghost use Rattle.std.specs.Prelude.{◌≡◌, ◌≢◌, ℕ, ◌+◌, ◌*◌,
 ghost use Rattle.bd_base.specs.Names.{IsNameByte};
 ghost use Rattle.bd_image.specs.Checks.{ZeroesFrom};
 ghost use Rattle.bd_image.specs.Layout.{inode_count, used_mark};
-ghost use Rattle.bd_image.specs.Rules.{HasRecords, IsLeastBreak, IsNameField, NameForm, Obeys};
+ghost use Rattle.bd_image.specs.Rules.{HasRecords, TellsBreak, IsNameField, NameForm, Obeys};
 
 use crate::layout::NAME_FIELD;
 use crate::reader::fields::{inode_count, is_used, name_field, record_place};
@@ -51,7 +51,7 @@ fn is_name_field(field: &[u8]) -> bool
 /// Each file has a name of the form that names have.
 pub(crate) fn check_name_forms(bytes: &[u8]) -> Option<u64>
     requires image { HasRecords bytes.now }
-    ensures { MatchOption result (Obeys bytes.now NameForm) (λ place. IsLeastBreak bytes.now NameForm place) }
+    ensures { TellsBreak bytes.now NameForm result }
 {
     for j in 0..inode_count(bytes) {
         if is_used(bytes, j) {

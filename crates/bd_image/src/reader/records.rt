@@ -1,7 +1,7 @@
 //! The rules of the single fields of a record.
 ghost use Rattle.std.specs.Prelude.{◌≡◌, ℕ, ◌+◌, ◌*◌, ◌<◌, ◌≤◌, length, MatchOption};
 ghost use Rattle.bd_image.specs.Layout.{byte_at, extent_count, inode_count, used_mark};
-ghost use Rattle.bd_image.specs.Rules.{ExtentCount, FreeRecord, HasRecords, IsLeastBreak, Obeys, Perms, RecordRest, UsedMark};
+ghost use Rattle.bd_image.specs.Rules.{ExtentCount, FreeRecord, HasRecords, TellsBreak, Obeys, Perms, RecordRest, UsedMark};
 
 use crate::layout::{EXTENT_BYTES, EXTENTS_FIELD, RECORD_BYTES};
 use crate::reader::fields::{
@@ -13,7 +13,7 @@ use bd_base::{EXTENTS, PERMS};
 /// Each record is marked as used or as free.
 pub(crate) fn check_used_marks(bytes: &[u8]) -> Option<u64>
     requires image { HasRecords bytes.now }
-    ensures { MatchOption result (Obeys bytes.now UsedMark) (λ place. IsLeastBreak bytes.now UsedMark place) }
+    ensures { TellsBreak bytes.now UsedMark result }
 {
     for j in 0..inode_count(bytes) {
         if used_mark(bytes, j) > 1 {
@@ -26,7 +26,7 @@ pub(crate) fn check_used_marks(bytes: &[u8]) -> Option<u64>
 /// Each free record is all zeros.
 pub(crate) fn check_free_records(bytes: &[u8]) -> Option<u64>
     requires image { HasRecords bytes.now }
-    ensures { MatchOption result (Obeys bytes.now FreeRecord) (λ place. IsLeastBreak bytes.now FreeRecord place) }
+    ensures { TellsBreak bytes.now FreeRecord result }
 {
     for j in 0..inode_count(bytes) {
         if used_mark(bytes, j) == 0 {
@@ -42,7 +42,7 @@ pub(crate) fn check_free_records(bytes: &[u8]) -> Option<u64>
 /// No file has permissions that are not there.
 pub(crate) fn check_perms(bytes: &[u8]) -> Option<u64>
     requires image { HasRecords bytes.now }
-    ensures { MatchOption result (Obeys bytes.now Perms) (λ place. IsLeastBreak bytes.now Perms place) }
+    ensures { TellsBreak bytes.now Perms result }
 {
     for j in 0..inode_count(bytes) {
         if is_used(bytes, j) && u64::from(perms_at(bytes, j)) >= PERMS {
@@ -55,7 +55,7 @@ pub(crate) fn check_perms(bytes: &[u8]) -> Option<u64>
 /// No file has too many extents.
 pub(crate) fn check_extent_counts(bytes: &[u8]) -> Option<u64>
     requires image { HasRecords bytes.now }
-    ensures { MatchOption result (Obeys bytes.now ExtentCount) (λ place. IsLeastBreak bytes.now ExtentCount place) }
+    ensures { TellsBreak bytes.now ExtentCount result }
 {
     for j in 0..inode_count(bytes) {
         if is_used(bytes, j) && extent_count(bytes, j) > EXTENTS {
@@ -69,7 +69,7 @@ pub(crate) fn check_extent_counts(bytes: &[u8]) -> Option<u64>
 pub(crate) fn check_record_rests(bytes: &[u8]) -> Option<u64>
     requires image { HasRecords bytes.now }
     requires counts { Obeys bytes.now ExtentCount }
-    ensures { MatchOption result (Obeys bytes.now RecordRest) (λ place. IsLeastBreak bytes.now RecordRest place) }
+    ensures { TellsBreak bytes.now RecordRest result }
 {
     for j in 0..inode_count(bytes) {
         if is_used(bytes, j) {

@@ -1,7 +1,7 @@
 //! The checks of all rules in their order.
-ghost use Rattle.std.specs.Prelude.{◌≡◌, ℕ, IfErr, OnOk};
-ghost use Rattle.bd_image.specs.Refusals.{IsRefusal, ObeysBelow};
-ghost use Rattle.bd_image.specs.Rules.{Accepted, BlockCount, ExtentCount, ExtentRange, HasRecords, Obeys, Size};
+ghost use Rattle.std.specs.Prelude.{IfErr, IfOk, OnOk};
+ghost use Rattle.bd_image.specs.Refusals.{RefusesBytesOfImage, ObeysBelow};
+ghost use Rattle.bd_image.specs.Rules.{Accepted, TellsBreak, rule_number};
 
 use crate::error::ImageError;
 use crate::reader::bitmap::check_bitmap;
@@ -17,122 +17,50 @@ use crate::reader::records::{
 use crate::reader::seen::check_names_fresh;
 use crate::reader::sharing::check_extent_shares;
 use crate::reader::tails::check_tails;
+use crate::rule::{RULES, Rule};
+use bd_base::OutOfMemory;
 use std::alloc::Global;
 
-/// The refusal for a broken rule.
-fn broken(rule: u8, place: u64) -> Result<(), ImageError>
-    ensures { result ≡ Err (ImageError.BadImage rule place) }
+/// The least place where an image that meets the rules before this one breaks it; None where it meets it.
+fn first_break(alloc: Global, bytes: &[u8], rule: Rule) -> Result<Option<u64>, OutOfMemory>
+    requires { ObeysBelow bytes.now (rule_number rule) }
+    ensures { IfOk result (TellsBreak bytes.now rule) }
 {
-    Err(ImageError::BadImage { rule, place })
-}
-
-/// Checks the rules 1 to 6, those of the first block.
-fn check_header(bytes: &[u8]) -> Result<(), ImageError>
-    ensures ok { OnOk result (ObeysBelow bytes.now 7) }
-    ensures err { IfErr result (IsRefusal bytes.now) }
-{
-    if let Some(place) = check_length(bytes) {
-        return broken(1, place);
+    match rule {
+        Rule::Length => Ok(check_length(bytes)),
+        Rule::Magic => Ok(check_magic(bytes)),
+        Rule::Version => Ok(check_version(bytes)),
+        Rule::BlockCount => Ok(check_block_count(bytes)),
+        Rule::InodeCount => Ok(check_inode_count(bytes)),
+        Rule::HeaderRest => Ok(check_header_rest(bytes)),
+        Rule::UsedMark => Ok(check_used_marks(bytes)),
+        Rule::FreeRecord => Ok(check_free_records(bytes)),
+        Rule::Perms => Ok(check_perms(bytes)),
+        Rule::ExtentCount => Ok(check_extent_counts(bytes)),
+        Rule::NameForm => Ok(check_name_forms(bytes)),
+        Rule::NameFresh => check_names_fresh(alloc, bytes),
+        Rule::RecordRest => Ok(check_record_rests(bytes)),
+        Rule::ExtentRange => Ok(check_extent_ranges(bytes)),
+        Rule::ExtentJoins => Ok(check_extent_joins(bytes)),
+        Rule::ExtentShares => check_extent_shares(alloc, bytes),
+        Rule::Size => Ok(check_sizes(bytes)),
+        Rule::TailZero => Ok(check_tails(bytes)),
+        Rule::Bitmap => check_bitmap(alloc, bytes),
     }
-    if let Some(place) = check_magic(bytes) {
-        return broken(2, place);
-    }
-    if let Some(place) = check_version(bytes) {
-        return broken(3, place);
-    }
-    if let Some(place) = check_block_count(bytes) {
-        return broken(4, place);
-    }
-    if let Some(place) = check_inode_count(bytes) {
-        return broken(5, place);
-    }
-    if let Some(place) = check_header_rest(bytes) {
-        return broken(6, place);
-    }
-    Ok(())
-}
-
-/// Checks the rules 7 to 13, those of the fields of records.
-fn check_records(alloc: Global, bytes: &[u8]) -> Result<(), ImageError>
-    requires image { HasRecords bytes.now }
-    requires header { ObeysBelow bytes.now 7 }
-    ensures ok { OnOk result (ObeysBelow bytes.now 14) }
-    ensures err { IfErr result (IsRefusal bytes.now) }
-{
-    if let Some(place) = check_used_marks(bytes) {
-        return broken(7, place);
-    }
-    if let Some(place) = check_free_records(bytes) {
-        return broken(8, place);
-    }
-    if let Some(place) = check_perms(bytes) {
-        return broken(9, place);
-    }
-    if let Some(place) = check_extent_counts(bytes) {
-        return broken(10, place);
-    }
-    if let Some(place) = check_name_forms(bytes) {
-        return broken(11, place);
-    }
-    if let Some(place) = check_names_fresh(alloc, bytes)? {
-        return broken(12, place);
-    }
-    if let Some(place) = check_record_rests(bytes) {
-        return broken(13, place);
-    }
-    Ok(())
-}
-
-/// Checks the rules 14 to 17, those of extents.
-fn check_extents(alloc: Global, bytes: &[u8]) -> Result<(), ImageError>
-    requires image { HasRecords bytes.now }
-    requires records { ObeysBelow bytes.now 14 }
-    requires counts { Obeys bytes.now ExtentCount }
-    ensures ok { OnOk result (ObeysBelow bytes.now 18) }
-    ensures err { IfErr result (IsRefusal bytes.now) }
-{
-    if let Some(place) = check_extent_ranges(bytes) {
-        return broken(14, place);
-    }
-    if let Some(place) = check_extent_joins(bytes) {
-        return broken(15, place);
-    }
-    if let Some(place) = check_extent_shares(alloc, bytes)? {
-        return broken(16, place);
-    }
-    if let Some(place) = check_sizes(bytes) {
-        return broken(17, place);
-    }
-    Ok(())
-}
-
-/// Checks the rules 18 and 19, those of blocks.
-fn check_blocks(alloc: Global, bytes: &[u8]) -> Result<(), ImageError>
-    requires image { HasRecords bytes.now }
-    requires extents { ObeysBelow bytes.now 18 }
-    requires total { Obeys bytes.now BlockCount }
-    requires counts { Obeys bytes.now ExtentCount }
-    requires ranges { Obeys bytes.now ExtentRange }
-    requires sizes { Obeys bytes.now Size }
-    ensures ok { OnOk result (Accepted bytes.now) }
-    ensures err { IfErr result (IsRefusal bytes.now) }
-{
-    if let Some(place) = check_tails(bytes) {
-        return broken(18, place);
-    }
-    if let Some(place) = check_bitmap(alloc, bytes)? {
-        return broken(19, place);
-    }
-    Ok(())
 }
 
 /// Checks all rules.
 pub(crate) fn check_rules(alloc: Global, bytes: &[u8]) -> Result<(), ImageError>
     ensures ok { OnOk result (Accepted bytes.now) }
-    ensures err { IfErr result (IsRefusal bytes.now) }
+    ensures err { IfErr result (RefusesBytesOfImage bytes.now) }
 {
-    check_header(bytes)?;
-    check_records(alloc, bytes)?;
-    check_extents(alloc, bytes)?;
-    check_blocks(alloc, bytes)
+    for rule in RULES {
+        if let Some(place) = first_break(alloc, bytes, rule)? {
+            return Err(ImageError::BadImage {
+                rule: rule.number(),
+                place,
+            });
+        }
+    }
+    Ok(())
 }

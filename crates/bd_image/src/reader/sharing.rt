@@ -3,7 +3,7 @@ ghost use Rattle.std.specs.Prelude.{◌≡◌, ◌≢◌, ℕ, ◌+◌, ◌<◌,
 ghost use Rattle.bd_base.specs.declared.limits.TheConstants.{EXTENTS};
 ghost use Rattle.bd_image.specs.Checks.{IsInside};
 ghost use Rattle.bd_image.specs.Layout.{IsUsed, extent_count, inode_count, used_mark};
-ghost use Rattle.bd_image.specs.Rules.{ExtentCount, ExtentRange, ExtentShares, HasRecords, IsLeastBreak, Obeys};
+ghost use Rattle.bd_image.specs.Rules.{ExtentCount, ExtentRange, ExtentShares, HasRecords, TellsBreak, Obeys};
 ghost use Rattle.bd_image.specs.Sharing.{IsFirstShare, IsInExtent, IsTakenIn, MarksBefore, SharesNoneAndMarks};
 
 use crate::reader::fields::{
@@ -29,7 +29,8 @@ fn is_any_taken(taken: &[bool], extent: Extent) -> bool
 /// Marks the blocks of the extent.
 pub(crate) fn take_blocks(taken: &mut [bool], extent: Extent)
     requires { extent.start + extent.length ≤ length taken.old }
-    ensures { (x : ℕ) → x < length taken.old → IsTakenIn taken.new x ↔ (IsTakenIn taken.old x ⊎ IsInExtent extent x) }
+    ensures { (x : ℕ) → x < length taken.old →
+        IsTakenIn taken.new x ↔ (IsTakenIn taken.old x ⊎ IsInExtent extent x) }
 {
     let start = extent.start as usize;
     for x in start..start + extent.length as usize {
@@ -44,7 +45,8 @@ fn first_shared(bytes: &[u8], j: u64, taken: &mut [bool]) -> Option<u64>
     requires few { extent_count bytes.now j ≤ EXTENTS }
     requires inside { (e : ℕ) → e < extent_count bytes.now j → IsInside bytes.now j e }
     requires marks { MarksBefore bytes.now taken.old j 0 }
-    ensures { MatchOption result (SharesNoneAndMarks bytes.now taken.new j) (IsFirstShare bytes.now j) }
+    ensures { MatchOption result (SharesNoneAndMarks bytes.now taken.new j)
+        (IsFirstShare bytes.now j) }
 {
     for e in 0..extent_count(bytes, j) {
         let extent = extent_at(bytes, j, e);
@@ -61,8 +63,7 @@ pub(crate) fn check_extent_shares(alloc: Global, bytes: &[u8]) -> Result<Option<
     requires image { HasRecords bytes.now }
     requires counts { Obeys bytes.now ExtentCount }
     requires ranges { Obeys bytes.now ExtentRange }
-    ensures { IfOk result
-        (λ found. MatchOption found (Obeys bytes.now ExtentShares) (λ place. IsLeastBreak bytes.now ExtentShares place)) }
+    ensures { IfOk result (TellsBreak bytes.now ExtentShares) }
 {
     let mut taken = vec![in alloc; false; block_count(bytes) as usize]?;
     for j in 0..inode_count(bytes) {

@@ -1,10 +1,10 @@
 //! The rule that the bytes of a file's last block past its size are zero.
 ghost use Rattle.std.specs.Prelude.{◌≡◌, ℕ, ◌<◌, ◌≤◌, min, length, MatchOption};
 ghost use Rattle.bd_image.specs.Layout.{IsUsed, inode_count};
-ghost use Rattle.bd_image.specs.Rules.{BlockCount, ExtentCount, ExtentRange, HasRecords, IsLeastBreak, Obeys, Size, TailZero};
+ghost use Rattle.bd_image.specs.Rules.{BlockCount, ExtentCount, ExtentRange, HasRecords, TellsBreak, Obeys, Size, TailZero};
 ghost use Rattle.bd_image.specs.Tails.{IsFirstInTail, IsTailZero};
 
-use crate::reader::fields::{extent_at, extent_count, inode_count, is_used, size_at};
+use crate::reader::fields::{extent_at, extent_count, inode_count, is_used, size_in_image};
 use crate::reader::zeros::first_nonzero;
 use bd_base::BLOCK_SIZE;
 
@@ -24,7 +24,7 @@ fn first_in_tail(bytes: &[u8], j: u64) -> Option<u64>
     }
     let last = extent_at(bytes, j, count - 1);
     let end = BLOCK_SIZE * (u64::from(last.start) + u64::from(last.length));
-    let size = size_at(bytes, j);
+    let size = size_in_image(bytes, j);
     let past = BLOCK_SIZE * size.div_ceil(BLOCK_SIZE) - size;
     first_nonzero(bytes, end - past, end)
 }
@@ -47,7 +47,7 @@ pub(crate) fn check_tails(bytes: &[u8]) -> Option<u64>
     requires counts { Obeys bytes.now ExtentCount }
     requires ranges { Obeys bytes.now ExtentRange }
     requires sizes { Obeys bytes.now Size }
-    ensures { MatchOption result (Obeys bytes.now TailZero) (λ place. IsLeastBreak bytes.now TailZero place) }
+    ensures { TellsBreak bytes.now TailZero result }
 {
     let mut least = None;
     for j in 0..inode_count(bytes) {

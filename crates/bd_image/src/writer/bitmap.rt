@@ -6,14 +6,15 @@ ghost use Rattle.bd_base.specs.Bytes.{AreBytes};
 ghost use Rattle.bd_image.specs.Bits.{is_set};
 ghost use Rattle.bd_image.specs.Volumes.{bitmap_bytes, bitmap_front, owns_block};
 
-use crate::bits::{mark_blocks, mark_run};
-use bd_base::{BLOCK_SIZE, Inode, OutOfMemory};
+use crate::bits::{mark_blocks, mark_range};
+use bd_base::{BLOCK_SIZE, Inode, OutOfMemory, data_start};
 use std::alloc::Global;
 
 /// Sets the bits of all blocks of all files.
 fn mark_files(bits: &mut [u8], inodes: &[Option<Inode>])
     requires { BLOCKS ≤ 8 * length bits.old }
-    ensures marks { (y : ℕ) → is_set bits.new y ≡ (is_set bits.old y || list_any (owns_block y) inodes.now) }
+    ensures marks { (y : ℕ) →
+        is_set bits.new y ≡ (is_set bits.old y || list_any (owns_block y) inodes.now) }
     ensures bytes { AreBytes bits.old → AreBytes bits.new }
 {
     for inode in inodes {
@@ -34,7 +35,7 @@ fn bitmap_front(
     ensures { IfOk result (λ bits. bits.items ≡ bitmap_front count inodes.now) }
 {
     let mut bits = vec![in alloc; 0; count]?;
-    mark_run(&mut bits, 0, 2 + inodes.len() as u64 / 16);
+    mark_range(&mut bits, 0, data_start(inodes.len() as u64));
     mark_files(&mut bits, inodes);
     Ok(bits)
 }

@@ -24,7 +24,8 @@ fn push_extents(out: &mut Vec<u8>, extents: &[Extent]) -> Result<(), OutOfMemory
 /// Appends a file's name and zeros up to 32 bytes.
 fn push_name(out: &mut Vec<u8>, name: &[u8]) -> Result<(), OutOfMemory>
     requires { length name.now ≤ 32 }
-    ensures { OnOk result (out.new.items ≡ out.old.items ++ name.now ++ replicate (32 - length name.now) 0) }
+    ensures { OnOk result
+        (out.new.items ≡ out.old.items ++ name.now ++ replicate (32 - length name.now) 0) }
 {
     out.extend_from_slice(name)?;
     push_zeros(out, 32 - name.len())

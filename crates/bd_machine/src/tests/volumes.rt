@@ -1,7 +1,7 @@
 //! Volumes for tests.
 ghost use Rattle.std.specs.Prelude.{◌≡◌, ◌≤◌, IfOk, IsSome, None, replicate};
 ghost use Rattle.bd_base.specs.declared.limits.TheConstants.{BLOCKS, FILE_SIZE};
-ghost use Rattle.bd_base.specs.Inodes.{AreValidFiles, file_at, inode_at};
+ghost use Rattle.bd_base.specs.Inodes.{AreValidFiles, existing_file, inode_at};
 ghost use Rattle.bd_base.specs.Volumes.{IsVolume};
 
 use bd_base::{FILE_SIZE, FileId, InodeList, List, OutOfMemory, Volume, copy_inodes};
@@ -10,28 +10,28 @@ use std::alloc::Global;
 use std::process::Abort;
 use std::test::Fail;
 
-/// `count` ids without a file.
-fn free_ids(alloc: Global, count: usize) -> Result<InodeList, OutOfMemory>
-    ensures { IfOk result (λ inodes. inodes ≡ replicate count None) }
+/// Sixteen records without a file.
+fn free_records(alloc: Global) -> Result<InodeList, OutOfMemory>
+    ensures { IfOk result (λ records. records ≡ replicate 16 None) }
 {
-    let mut inodes: InodeList = List::new(alloc);
-    for _id in 0..count {
-        inodes.push(None)?;
+    let mut records: InodeList = List::with_capacity(alloc, 16)?;
+    for _id in 0..16 {
+        records.push(None)?;
     }
-    Ok(inodes)
+    Ok(records)
 }
 
 /// A volume of `total` blocks with room for sixteen files, and none there.
 pub(super) fn no_files(alloc: Global, total: u32) -> Result<Fs, OutOfMemory>
     requires { total ≤ BLOCKS }
 {
-    Fs::new(alloc, total, free_ids(alloc, 16)?)
+    Fs::new(alloc, total, free_records(alloc)?)
 }
 
 /// The size of a file that exists.
 fn size_of(rt: &impl Abort, fs: &Fs, file: FileId) -> u64
     ensures exists { IsSome (inode_at fs.now.files file) }
-    ensures size { result ≡ (file_at fs.now.files file).size }
+    ensures size { result ≡ (existing_file fs.now.files file).size }
     ensures in_range { result ≤ FILE_SIZE }
 {
     let size = fs.inode(file).expect(rt, "the file exists").size;

@@ -1,5 +1,5 @@
 //! Images that are checked.
-use super::{SCRIPT, SURE, checked, first_image, is_refused, put, replayed, set};
+use super::{SCRIPT, SURE, check_image, first_image, is_refused, put, replay_image, set};
 use crate::{Status, check_all};
 use bd_base::List;
 use bd_outside::{SureSink, SureSource};
@@ -40,7 +40,7 @@ fn no_files(alloc: Global) -> Result<Vec<u8>, Fail> {
 
 #[test]
 fn tells_of_an_accepted_image(rt: HostRuntime) -> Result<(), Fail> {
-    let left = checked(rt.alloc(), first_image(rt.alloc())?, SURE)?;
+    let left = check_image(rt.alloc(), first_image(rt.alloc())?, SURE)?;
     assert_eq!(&rt; left.outcome.status, Status::Done);
     assert!(&rt; left.out.held() == "accepted blocks 20 files 1 free 16\n".as_bytes());
     assert!(&rt; left.disk.held().is_empty());
@@ -65,13 +65,13 @@ fn is_bad(
 ) -> Result<(), Fail> {
     let want = Status::BadImage { rule, place };
     let copy = image.as_slice().to_vec(rt.alloc())?;
-    is_refused(rt, &checked(rt.alloc(), copy, SURE)?, want);
-    is_refused(rt, &replayed(rt.alloc(), image, SCRIPT, SURE)?, want);
+    is_refused(rt, &check_image(rt.alloc(), copy, SURE)?, want);
+    is_refused(rt, &replay_image(rt.alloc(), image, SCRIPT, SURE)?, want);
     Ok(())
 }
 
 /// The first image with two extents of `a` that adjoin.
-fn adjoining(alloc: Global) -> Result<Vec<u8>, Fail> {
+fn adjoining_extents(alloc: Global) -> Result<Vec<u8>, Fail> {
     let mut image = first_image(alloc)?;
     set(&mut image, 4096, 0x1F);
     put(&mut image, 8192, "\x01\x0F\x02\0\x64\0\0\0\0\x20");
@@ -81,7 +81,7 @@ fn adjoining(alloc: Global) -> Result<Vec<u8>, Fail> {
 
 #[test]
 fn refuses_bad_images(rt: HostRuntime) -> Result<(), Fail> {
-    is_bad(&rt, adjoining(rt.alloc())?, 15, 8248)?;
+    is_bad(&rt, adjoining_extents(rt.alloc())?, 15, 8248)?;
     // A byte past the size.
     let mut image = first_image(rt.alloc())?;
     set(&mut image, 12_294, 1);

@@ -1,7 +1,7 @@
 //! The first read with each call of each source and sink failing in turn.
 use super::{
-    Left, Plan, REPORT, SCRIPT, SURE, bytes, checked, failing, first_image, has_run, is_refused,
-    replayed,
+    Left, Plan, REPORT, SCRIPT, SURE, bytes, check_image, fails_of, first_image, has_run,
+    is_refused, replay_image,
 };
 use crate::{Status, To, Which, code, replay_all};
 use bd_base::List;
@@ -12,12 +12,12 @@ use std::test::Fail;
 
 /// What a replay of the first read leaves where these calls fail.
 fn first_read(alloc: Global, plan: Plan) -> Result<Left, Fail> {
-    replayed(alloc, first_image(alloc)?, SCRIPT, plan)
+    replay_image(alloc, first_image(alloc)?, SCRIPT, plan)
 }
 
 /// What a check of its image leaves.
 fn first_check(alloc: Global, plan: Plan) -> Result<Left, Fail> {
-    checked(alloc, first_image(alloc)?, plan)
+    check_image(alloc, first_image(alloc)?, plan)
 }
 
 #[test]
@@ -130,7 +130,7 @@ fn a_fault_leaves_a_prefix(rt: HostRuntime) -> Result<(), Fail> {
     let alloc = rt.alloc();
     let mut image = SureSource::new(List::from_vec(first_image(alloc)?), 100_000);
     let mut script = SureSource::new(bytes(alloc, SCRIPT)?, 100);
-    let mut out = MemSink::new(alloc, 16, failing(alloc, Some(1))?);
+    let mut out = MemSink::new(alloc, 16, fails_of(alloc, Some(1))?);
     let mut disk = SureSink::new(alloc, 100_000);
     let outcome = replay_all(alloc, &mut image, &mut script, &mut out, &mut disk);
     assert_eq!(&rt; code(&outcome.status), 4);

@@ -1,5 +1,5 @@
 //! Words, images and scripts that are refused, in their order; and the texts of faults.
-use super::{Plan, SCRIPT, SURE, command, first_image, is_refused, replayed, set, words};
+use super::{Plan, SCRIPT, SURE, command, first_image, is_refused, replay_image, set, words};
 use crate::{Command, Status, To, Which, code, fault_text, read_words, replay_all};
 use bd_base::List;
 use bd_outside::{SureSink, SureSource};
@@ -49,9 +49,14 @@ fn refuses_words_that_say_no_command(rt: HostRuntime) -> Result<(), Fail> {
 #[test]
 fn reads_words_that_say_a_command(rt: HostRuntime) -> Result<(), Fail> {
     let replay = words(rt.alloc(), ["replay", "a b", "/x/../y", "o-"].as_slice())?;
-    assert!(&rt; read_words(replay.as_slice()) == Some(Command::Replay));
+    let want = Command::Replay {
+        image: "a b",
+        script: "/x/../y",
+        out: "o-",
+    };
+    assert!(&rt; read_words(replay.as_slice()) == Some(want));
     let check = words(rt.alloc(), ["check", "check"].as_slice())?;
-    assert!(&rt; read_words(check.as_slice()) == Some(Command::Check));
+    assert!(&rt; read_words(check.as_slice()) == Some(Command::Check { image: "check" }));
     Ok(())
 }
 
@@ -74,7 +79,7 @@ const NOT_SIMPLE: [&str; 9] = [
 #[test]
 fn refuses_scripts_that_are_not_simple(rt: HostRuntime) -> Result<(), Fail> {
     for script in NOT_SIMPLE {
-        let left = replayed(rt.alloc(), first_image(rt.alloc())?, script, SURE)?;
+        let left = replay_image(rt.alloc(), first_image(rt.alloc())?, script, SURE)?;
         is_refused(&rt, &left, BAD_SCRIPT);
     }
     Ok(())
@@ -99,14 +104,14 @@ fn tells_the_image_before_the_script(rt: HostRuntime) -> Result<(), Fail> {
     let mut bad = first_image(rt.alloc())?;
     set(&mut bad, 4096, 0x1F);
     let script = Some(0);
-    let left = replayed(rt.alloc(), bad, "", Plan { script, ..SURE })?;
+    let left = replay_image(rt.alloc(), bad, "", Plan { script, ..SURE })?;
     let want = Status::BadImage {
         rule: 19,
         place: 4096,
     };
     is_refused(&rt, &left, want);
     let image = Some(2);
-    let left = replayed(
+    let left = replay_image(
         rt.alloc(),
         first_image(rt.alloc())?,
         "",
@@ -119,7 +124,7 @@ fn tells_the_image_before_the_script(rt: HostRuntime) -> Result<(), Fail> {
 #[test]
 fn tells_the_script_before_a_write(rt: HostRuntime) -> Result<(), Fail> {
     let (out, disk) = (Some(0), Some(0));
-    let left = replayed(
+    let left = replay_image(
         rt.alloc(),
         first_image(rt.alloc())?,
         "",

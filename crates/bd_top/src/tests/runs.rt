@@ -1,5 +1,5 @@
 //! Runs with all that they leave.
-use super::{REPORT, SCRIPT, SURE, bytes, first_image, has_run, replayed};
+use super::{REPORT, SCRIPT, SURE, bytes, first_image, has_run, replay_image};
 use crate::{Status, replay_all};
 use bd_base::{Actor, At, How, List, Mode, Way};
 use bd_entry::Entry;
@@ -32,14 +32,16 @@ fn is_mapped(entry: &Entry) -> bool {
 
 /// Whether the entry tells of a direct read of file 0.
 fn is_direct_read(entry: &Entry) -> bool {
-    matches!(entry, Entry::Access { at, piece: 0, fd, file, index: 0, wrote: false, way: Way::Direct, .. }
-        if is_call(at, 1) && fd.get() == 0 && file.get() == 0)
+    matches!(entry, Entry::Access {
+            at, piece: 0, fd, file, index: 0, wrote: false, way: Way::Direct, ..
+        } if is_call(at, 1) && fd.get() == 0 && file.get() == 0)
 }
 
 /// Whether the entry tells of the bytes `hello` at the beginning of block 3.
 fn is_of_hello(entry: &Entry) -> bool {
     matches!(entry, Entry::Access { block: Some(block), range, bytes, .. }
-        if block.get() == 3 && range.lo == 0 && range.hi == 5 && bytes.as_slice() == "hello".as_bytes())
+        if block.get() == 3 && range.lo == 0 && range.hi == 5
+            && bytes.as_slice() == "hello".as_bytes())
 }
 
 /// Expects the journal of the first read.
@@ -75,7 +77,7 @@ fn has_first_events(rt: &impl Abort, trace: &[Event]) {
 fn replays_the_first_read(rt: HostRuntime) -> Result<(), Fail> {
     let alloc = rt.alloc();
     let image = first_image(alloc)?;
-    let left = replayed(alloc, first_image(alloc)?, SCRIPT, SURE)?;
+    let left = replay_image(alloc, first_image(alloc)?, SCRIPT, SURE)?;
     has_run(
         &rt,
         &left,

@@ -12,6 +12,7 @@ loop-entry-preserved c =
     let item = c.entry-item.result in
     let more : take (i + 1) entries ≡ take i entries ++ item ∷ [] =
     take_more entries i item c.loop-entry-test.true ∙ ap (λ (x : Entry). take i entries ++ x ∷ []) (sym c.entry-item.is) in
-    line_written (take i entries) item c.loop-entry.text.items c.push_entry.new.text.items c.push-in-loop-entry.new.self.items c.loop-entry.invariant c.in_ok-push_entry.ensures
-    c.in_ok-push-2.ensures.items
+    line_written (take i entries) item c.loop-entry.text.items c.push_entry.new.text.items c.push.new.self.items c.loop-entry.invariant
+    c.in_ok-push_entry.ensures
+    c.in_ok-push.ensures.items
     ∙ ap journal_text (sym more)

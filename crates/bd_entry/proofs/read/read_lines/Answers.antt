@@ -1,6 +1,7 @@
 use Rattle.std.proofs.Common.{◌≡◌, ◌≢◌, ℕ, ◌+◌, ◌++◌, ◌∷◌, [], List, length, true, ap, sym, ◌∙◌, subst, inr, arith, length-append}
 use Rattle.std.proofs.lemmas.List.{length_push}
 use Rattle.std.proofs.lemmas.List.Elements.{All-push}
+use Rattle.bd_blocks.specs.declared.text.TheConstants.{LF}
 use Rattle.bd_entry.specs.Ranges.{AreEntries, IsEntry}
 use Rattle.bd_entry.specs.Texts.{entry_text, header, journal_text}
 use Rattle.bd_entry.specs.declared.entry.Entry.{Entry}
@@ -16,9 +17,9 @@ returns-in_default-2-clause-refused c =
       line = c.in-Some.line.now;
       ended = true;
       rest = c.in-Some.next.now;
-      one_line = c.in-Some.ensures.1;
+      one_line = c.in-Some.ensures.first;
       some = λ no. absurd (let never : ⊥ = cc no in never);
-      follows = c.loop-rest.invariant.text ∙ ap (λ (t : List ℕ). journal_text c.loop-rest.entries ++ t) c.in-Some.ensures.0;
+      follows = c.loop-rest.invariant.text ∙ ap (λ (t : List ℕ). journal_text c.loop-rest.entries ++ t) c.in-Some.ensures.split;
       number_is = c.loop-rest.invariant.number;
       broken = inr (λ reading. none reading.0 reading.1 reading.2);
     })
@@ -31,11 +32,11 @@ loop-rest-preserved c =
     let read : IsEntry entry × (c.in-Some.line.now ≡ entry_text entry) = rw c.in-Some-2.is at c.in_ok-entry.ensures in
     let grown : c.push.new.self ≡ entries ++ entry ∷ [] = c.in_ok-push.ensures.ok in
     let count : length c.push.new.self ≡ length entries + 1 = ap length grown ∙ length_push entries entry in
-    let splits : c.loop-rest.rest.now ≡ c.in-Some.line.now ++ 10 ∷ c.in-Some.next.now = c.in-Some.ensures.0 in
+    let splits : c.loop-rest.rest.now ≡ c.in-Some.line.now ++ LF ∷ c.in-Some.next.now = c.in-Some.ensures.split in
     record {
       good = subst (λ (es : List Entry). AreEntries es) (sym grown) (All-push IsEntry entries entry was.good read.0);
-      text = line_read entries entry (header ++ 10 ∷ c.args.text.now) c.loop-rest.rest.now c.in-Some.line.now c.in-Some.next.now was.text splits read.1
+      text = line_read entries entry (header ++ LF ∷ c.args.text.now) c.loop-rest.rest.now c.in-Some.line.now c.in-Some.next.now was.text splits read.1
           ∙ ap (λ (es : List Entry). journal_text es ++ c.in-Some.next.now) (sym grown);
       number = omega (arith, was.number);
-      room = omega (arith, was.room, ap length splits, length-append c.in-Some.line.now (10 ∷ c.in-Some.next.now));
+      room = omega (arith, was.room, ap length splits, length-append c.in-Some.line.now (LF ∷ c.in-Some.next.now));
     }

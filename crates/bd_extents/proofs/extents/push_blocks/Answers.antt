@@ -1,7 +1,7 @@
 use Rattle.std.proofs.Common.{◌≡◌, ℕ, ◌+◌, ◌-◌, ◌∷◌, [], ◌++◌, arith, ap, ◌∙◌}
 use Rattle.std.proofs.lemmas.Grind.{common_steps}
 use Rattle.std.specs.List.{range_with_len}
-use Rattle.bd_extents.proofs.Runs.{range_with_len-push}
+use Rattle.bd_base.proofs.Ranges.{range_with_len-push}
 use Rattle.bd_extents.proofs.extents.push_blocks.Goals as goal
 
 pub loop-number-preserved : goal.loop-number-preserved

@@ -12,7 +12,7 @@ block_count-total-requires c =
 
 pub without_metadata-bytes-requires : goal.without_metadata-bytes-requires
 without_metadata-bytes-requires c =
-    subst HasRecords c.as_slice.ensures (has_records c.as_slice.result.now (λ q _. c.in_ok-inodes.ensures.accepted q))
+    subst HasRecords c.as_slice.ensures (has_records c.as_slice.result.now 20 (omega arith) (λ q _. c.in_ok-inodes.ensures.accepted q))
 
 pub returns-clause-accepted_volume : goal.returns-clause-accepted_volume
 unfolding AcceptedVolume volume_of

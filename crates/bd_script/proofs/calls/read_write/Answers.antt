@@ -3,7 +3,8 @@ use Rattle.std.proofs.lemmas.Result.{err_from_is_err_and}
 use Rattle.bd_script.proofs.NamedLines.{write-refused}
 use Rattle.bd_script.proofs.calls.read_write.Goals as goal
 
-pub returns-in_err-fd-clause-refused : goal.returns-in_err-fd-clause-refused
-returns-in_err-fd-clause-refused c =
+pub returns-in_err-placed-clause-refused : goal.returns-in_err-placed-clause-refused
+returns-in_err-placed-clause-refused c =
     let p = err_from_is_err_and c.from_residual.result c.from_residual.ensures.1 in
-    rw (p.1, p.2) (write-refused _ _ (λ n small. (omega arith, omega arith)) (λ n small. (omega arith, omega arith)) c.args.rest.now c.in_err-fd.field-0.0 c.in_err-fd.ensures.refused)
+    rw (p.1, p.2) (write-refused _ _ (λ n small. (omega arith, omega arith))
+    (λ n small. (omega arith, omega arith)) c.args.rest.now c.in_err-placed.field-0.0 c.in_err-placed.ensures.refused)

@@ -16,5 +16,8 @@ returns-in_err-line-clause-refused c =
 pub returns-clause-refused : goal.returns-clause-refused
 returns-clause-refused c =
     let read = c.in_ok-line.ensures.ok in
-    IfErr-weaker c.with_line.result (λ (fault : Fault). (form : Form) → IsForm form → IsInRange form → Stands c.in_ok-line.line form → RefusesForm c.args.draft form fault)
-    (RefusesNext c.args.draft c.args.text.now) (λ fault refused. form-breaks c.args.draft c.args.text.now read.form read.is_form read.in_range read.spelled fault (refused read.form read.is_form read.in_range read.stands)) c.with_line.ensures.refused
+    IfErr-weaker c.with_line.result (λ (fault : Fault). (form : Form) → IsForm form → IsInRange form → Stands c.in_ok-line.line form
+    → RefusesForm c.args.draft form fault)
+    (RefusesNext c.args.draft c.args.text.now)
+    (λ fault refused. form-breaks c.args.draft c.args.text.now read.form read.is_form read.in_range read.spelled fault
+    (refused read.form read.is_form read.in_range read.stands)) c.with_line.ensures.refused

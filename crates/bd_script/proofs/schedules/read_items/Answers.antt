@@ -1,11 +1,9 @@
-use Rattle.std.specs.Prelude.{All}
-use Rattle.std.proofs.Common.{◌≡◌, ℕ, ◌≤◌, List, [], ◌∷◌, ◌++◌, length, true, false, Bool, refl, sym, ap, ◌∙◌, subst, length-append, arith}
+use Rattle.std.proofs.Common.{◌≡◌, ℕ, List, [], ◌∷◌, ◌++◌, true, false, Bool, refl, sym, ap, ◌∙◌, subst, length-append, arith}
 use Rattle.std.proofs.lemmas.Grind.{common_steps}
 use Rattle.std.proofs.lemmas.Result.{err_from_is_err_and}
-use Rattle.bd_script.specs.declared.schedules.Turns.{Turns}
-use Rattle.bd_script.proofs.ItemTexts.{Scanned, done_text, front-fault, items-refused, items_text-last, last-fault, no-items, scan-step}
+use Rattle.bd_script.proofs.ItemTexts.{done_text, front-fault, items-refused, items_text-last, last-fault, no-items, scan-step}
 use Rattle.bd_script.specs.Schedules.{AreKept}
-use Rattle.bd_script.specs.Texts.{Written, items_text, written_text}
+use Rattle.bd_script.specs.Texts.{Written}
 use Rattle.bd_script.proofs.schedules.read_items.Goals as goal
 
 pub loop-field-init : goal.loop-field-init
@@ -21,20 +19,21 @@ returns-in_err-scan-clause-refused c =
     let s = c.loop-field.invariant in
     let split = c.in-Some.ensures in
     rw (p.1, p.2) (items-refused c.args.text.now c.in-Some.field.now
-    (λ none. no-items c.args.text.now c.loop-field.rest.now s.done s.split (front-fault c.loop-field.rest.now c.in-Some.field.now c.in-Some.next.now split.0 split.1 none))
+    (λ none. no-items c.args.text.now c.loop-field.rest.now s.done s.split
+    (front-fault c.loop-field.rest.now c.in-Some.field.now c.in-Some.next.now split.split split.first none))
     c.in_err-scan.field-0.0 c.in_err-scan.ensures.refused)
 
 pub loop-field-preserved : goal.loop-field-preserved
 loop-field-preserved c =
     let ok = c.in_ok-scan.ensures.ok in
-    scan-step c.args.text.now c.loop-field.rest.now c.in-Some.field.now c.in-Some.next.now _ _ _ _ c.loop-field.invariant ok.0 c.in-Some.ensures.0 ok.1 ok.2
+    scan-step c.args.text.now c.loop-field.rest.now c.in-Some.field.now c.in-Some.next.now _ _ _ _ c.loop-field.invariant ok.0 c.in-Some.ensures.split ok.1 ok.2
 
 pub returns-in_err-scan-2-clause-refused : goal.returns-in_err-scan-2-clause-refused
 returns-in_err-scan-2-clause-refused c =
     let p = err_from_is_err_and c.from_residual-in_err-scan-2.result c.from_residual-in_err-scan-2.ensures.1 in
     let s = c.loop-field.invariant in
     rw (p.1, p.2) (items-refused c.args.text.now c.loop-field.rest.now
-    (λ none. no-items c.args.text.now c.loop-field.rest.now s.done s.split (last-fault c.loop-field.rest.now c.in_default.ensures none))
+    (λ none. no-items c.args.text.now c.loop-field.rest.now s.done s.split (last-fault c.loop-field.rest.now c.in_default.ensures.none none))
     c.in_err-scan-2.field-0.0 c.in_err-scan-2.ensures.refused)
 
 pub returns-then-not-scan-clause-refused : goal.returns-then-not-scan-clause-refused

@@ -1,7 +1,4 @@
-use Rattle.std.proofs.Common.{◌≡◌, ◌≤◌, ◌<◌, ◌+◌, get_or, take, drop, sym, ap, ◌∙◌, arith, rules}
-use Rattle.std.proofs.lemmas.Grind.{common_steps}
-use Rattle.bd_script.specs.declared.schedules.Turns.{Turns}
-use Rattle.bd_script.specs.Schedules.{kept_turns}
+use Rattle.std.proofs.Common.{◌≡◌, ◌<◌, ◌+◌, get_or, arith}
 use Rattle.bd_script.proofs.TurnSums.{kept_turns-more, kept_turns-upto}
 use Rattle.bd_script.proofs.schedules.turns_left.Goals as goal
 

@@ -1,7 +1,13 @@
-use Rattle.bd_entry.proofs.Entries.{no_opened}
+use Rattle.bd_entry.proofs.EntryKinds.{opened-no_fd, opened-no_way}
 use Rattle.bd_entry.proofs.read.kinds.read_opened.Goals as goal
+
+pub returns-in_err-fd : goal.returns-in_err-fd
+returns-in_err-fd c =
+    rw c.from_residual-in_err-fd.ensures
+    (opened-no_fd c.in_ok-file.file c.args.text.now c.in_ok-file.rest.now c.in_ok-file.ensures.some c.in_err-fd.ensures.none)
 
 pub returns-in_err-mode : goal.returns-in_err-mode
 returns-in_err-mode c =
     rw c.from_residual-in_err-mode.ensures
-    (no_opened c.in_ok-file.file c.in_ok-file.fd c.args.text.now c.in_ok-file.rest.now c.in_ok-file.ensures.0 c.in_ok-file.ensures.1 c.in_ok-file.ensures.2 c.in_err-mode.ensures)
+    (opened-no_way c.in_ok-file.file c.in_ok-fd.fd c.args.text.now c.in_ok-file.rest.now c.in_ok-fd.rest.now c.in_ok-file.ensures.some
+    c.in_ok-fd.ensures.some c.in_err-mode.ensures)

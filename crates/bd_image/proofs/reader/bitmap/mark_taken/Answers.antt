@@ -13,7 +13,8 @@ loop-j-preserved c =
     elim c.if-is_used.branch [
       | then-is_used w ↦
           subst Marked (sym w.taken-is)
-          (file_marked b c.loop-j.taken w.take_file.new.taken j c.loop-j.invariant (c.is_used.ensures.0 w.if-is_used.true) w.take_file.auto.taken w.take_file.ensures)
+          (file_marked b c.loop-j.taken w.take_file.new.taken j c.loop-j.invariant
+          (c.is_used.ensures.0 w.if-is_used.true) w.take_file.auto.taken w.take_file.ensures)
       | else-is_used w ↦
           subst Marked (sym w.taken-is)
           (free_marked b c.loop-j.taken j c.loop-j.invariant (λ used. absurd (false≢true (sym w.if-is_used.false ∙ c.is_used.ensures.1 used))))

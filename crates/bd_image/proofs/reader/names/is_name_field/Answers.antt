@@ -7,7 +7,9 @@ pub returns : goal.returns
 returns c =
     let name = c.name_length-length.ensures in (
       λ t. IsNameField-from_parts c.args.field.now c.name_length-length.result c.requires (omega arith) (omega arith) name.bytes (c.is_zero_from.ensures.0 t),
-      λ h. c.is_zero_from.ensures.1 (zeroes_after_name c.args.field.now c.name_length-length.result c.requires (omega arith) name.bytes (λ l. name.end (omega arith)) h).2,
+      λ h. c.is_zero_from.ensures.1
+          (zeroes_after_name c.args.field.now c.name_length-length.result c.requires (omega arith) name.bytes
+          (λ l. name.end (omega arith)) h).2,
     )
 
 pub returns-then-length-eq0 : goal.returns-then-length-eq0

@@ -1,28 +1,34 @@
-use Rattle.std.proofs.Common.{arith}
-use Rattle.bd_image.specs.Rules.{BlockCount, ExtentCount, ExtentRange, Size}
-use Rattle.bd_image.proofs.RuleOrder.{has_records}
+use Rattle.std.proofs.Common.{◌≡◌, ◌+◌, ℕ, get_or, ap, sym, subst, arith}
+use Rattle.bd_image.specs.Refusals.{ObeysBelow}
+use Rattle.bd_image.specs.Rules.{Length, Rule, rule_number}
+use Rattle.bd_image.specs.declared.rule.TheConstants.{RULES}
+use Rattle.bd_image.proofs.RuleOrder.{all_met, below_first, met, number-at, refused}
 use Rattle.bd_image.proofs.reader.rules.check_rules.Goals as goal
 
-pub check_records-requires-clause-image : goal.check_records-requires-clause-image
-check_records-requires-clause-image c = has_records c.args.bytes.now c.in_ok-check_header.ensures.ok
+pub loop-rule-init : goal.loop-rule-init
+loop-rule-init c = below_first c.args.bytes.now
 
-pub check_extents-requires-clause-image : goal.check_extents-requires-clause-image
-check_extents-requires-clause-image c = has_records c.args.bytes.now c.in_ok-check_header.ensures.ok
+pub first_break-requires : goal.first_break-requires
+first_break-requires c =
+    subst (ObeysBelow c.args.bytes.now) (sym (number-at c.loop-rule.rule-index c.loop-rule-test.true)) c.loop-rule.invariant
 
-pub check_extents-requires-clause-counts : goal.check_extents-requires-clause-counts
-check_extents-requires-clause-counts c = c.in_ok-check_records.ensures.ok ExtentCount (omega arith)
+pub loop-rule-preserved : goal.loop-rule-preserved
+loop-rule-preserved c =
+    let i : ℕ = c.loop-rule.rule-index in
+    let number : rule_number (get_or RULES i Length) ≡ i + 1 = number-at i c.loop-rule-test.true in
+    subst (ObeysBelow c.args.bytes.now) (ap (λ (n : ℕ). n + 1) number)
+    (met c.args.bytes.now (get_or RULES i Length) (subst (ObeysBelow c.args.bytes.now) (sym number) c.loop-rule.invariant)
+    (rw c.in_default.is at c.in_ok-place.ensures))
 
-pub check_blocks-requires-clause-image : goal.check_blocks-requires-clause-image
-check_blocks-requires-clause-image c = has_records c.args.bytes.now c.in_ok-check_header.ensures.ok
+pub returns-in-Some-clause-err : goal.returns-in-Some-clause-err
+returns-in-Some-clause-err c =
+    let i : ℕ = c.loop-rule.rule-index in
+    let number : rule_number (get_or RULES i Length) ≡ i + 1 = number-at i c.loop-rule-test.true in
+    rw c.number.ensures
+    (refused c.args.bytes.now (get_or RULES i Length) c.in-Some.place
+    (subst (ObeysBelow c.args.bytes.now) (sym number) c.loop-rule.invariant)
+    (rw c.in-Some.is at c.in_ok-place.ensures))
 
-pub check_blocks-requires-clause-total : goal.check_blocks-requires-clause-total
-check_blocks-requires-clause-total c = c.in_ok-check_header.ensures.ok BlockCount (omega arith)
-
-pub check_blocks-requires-clause-counts : goal.check_blocks-requires-clause-counts
-check_blocks-requires-clause-counts c = c.in_ok-check_records.ensures.ok ExtentCount (omega arith)
-
-pub check_blocks-requires-clause-ranges : goal.check_blocks-requires-clause-ranges
-check_blocks-requires-clause-ranges c = c.in_ok-check_extents.ensures.ok ExtentRange (omega arith)
-
-pub check_blocks-requires-clause-sizes : goal.check_blocks-requires-clause-sizes
-check_blocks-requires-clause-sizes c = c.in_ok-check_extents.ensures.ok Size (omega arith)
+pub returns-clause-ok : goal.returns-clause-ok
+returns-clause-ok c =
+    all_met c.args.bytes.now (λ q less. c.loop-rule.invariant q (omega (arith, less, c.loop-rule-test.false)))

@@ -16,7 +16,10 @@ loop-j-preserved c =
           let added = w.in_ok-is_new.ensures in
           let is_new : IsTrue w.in_ok-is_new.is_new = search rules in
           let fresh : ¬ HasName c.loop-j.seen (name_field b j) = rw field at (added.added.0 is_new) in
-          let names : (f : List ℕ) → HasName w.add_name.new.seen f ↔ (HasName c.loop-j.seen f ⊎ (f ≡ name_field b j)) = λ f. rw field at (added.names f) in
+          let names : (f : List ℕ) → HasName w.add_name.new.seen f ↔
+          (HasName c.loop-j.seen f ⊎ (f ≡ name_field b j)) = λ f. rw field at (added.names f) in
           rw w.seen-is (knows_added b c.loop-j.seen w.add_name.new.seen j c.loop-j.invariant (c.is_used.ensures.0 w.if-is_used.true) fresh names)
-      | else-is_used w ↦ rw w.seen-is (knows_more b c.loop-j.seen j c.loop-j.invariant (λ u. absurd (false≢true (sym w.if-is_used.false ∙ c.is_used.ensures.1 u))))
+      | else-is_used w ↦ rw w.seen-is
+          (knows_more b c.loop-j.seen j c.loop-j.invariant
+          (λ u. absurd (false≢true (sym w.if-is_used.false ∙ c.is_used.ensures.1 u))))
     ]

@@ -13,10 +13,15 @@ loop-j-preserved c =
     elim c.if-is_used.branch [
       | then-is_used+in-Some w ↦
           let used : IsUsed b j = (omega arith, c.is_used.ensures.0 w.if-is_used.true) in
-          subst Found (sym w.least-is) (found_place b j w.in-Some.place w.earlier.result c.loop-j.least used w.in-Some.ensures w.earlier.ensures c.loop-j.invariant)
+          subst Found (sym w.least-is)
+          (found_place b j w.in-Some.place w.earlier.result c.loop-j.least used w.in-Some.ensures
+          w.earlier.ensures c.loop-j.invariant)
       | then-is_used+in_default w ↦ subst Found (sym w.least-is) (found_none b j c.loop-j.least (λ _. w.in_default.ensures) c.loop-j.invariant)
       | else-is_used w ↦
-          subst Found (sym w.least-is) (found_none b j c.loop-j.least (λ used. absurd (false≢true (sym w.if-is_used.false ∙ c.is_used.ensures.1 used.1))) c.loop-j.invariant)
+          subst Found (sym w.least-is)
+          (found_none b j c.loop-j.least
+          (λ used. absurd (false≢true (sym w.if-is_used.false ∙ c.is_used.ensures.1 used.1)))
+          c.loop-j.invariant)
     ]
 
 pub returns : goal.returns

@@ -1,4 +1,4 @@
--- The appends make up the record of the file, whose extents are the runs of its blocks.
+-- The appends make up the record of the file, whose extents are those of its blocks.
 use Rattle.std.proofs.Common.{◌≡◌, ◌+◌, ◌-◌, ◌*◌, ◌++◌, ◌∷◌, ℕ, List, length, replicate, ap, ◌∙◌, arith}
 use Rattle.std.proofs.lemmas.Result.{on_ok_weaker}
 use Rattle.std.specs.List.{flat_map}

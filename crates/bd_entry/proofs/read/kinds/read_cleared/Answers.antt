@@ -1,0 +1,8 @@
+use Rattle.bd_entry.proofs.EntryKinds.{cleared-none, three-none}
+use Rattle.bd_entry.proofs.read.kinds.read_cleared.Goals as goal
+
+pub returns-in_err-fd : goal.returns-in_err-fd
+returns-in_err-fd c =
+    rw c.from_residual-in_err-fd.ensures
+    (cleared-none c.args.text.now
+    (three-none _ _ _ c.in_ok-owner.owner c.args.text.now c.in_ok-owner.rest.now c.in_ok-owner.ensures.some c.in_err-fd.ensures))

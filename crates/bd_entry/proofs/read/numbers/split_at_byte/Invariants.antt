@@ -1,7 +1,0 @@
-use Rattle.std.proofs.Common.{◌≡◌, false, take}
-use Rattle.bd_entry.specs.Reading.{has_byte}
-use Rattle.bd_entry.proofs.read.numbers.split_at_byte.Given as goal
-
--- the byte is not among those seen
-abbrev pub invariant-loop-i : goal.invariant-loop-i
-invariant-loop-i l = has_byte l.byte (take l.i l.text) ≡ false

@@ -1,0 +1,3 @@
+-- Lemmas that the proofs share.
+pub mod Pools
+pub mod NewPool

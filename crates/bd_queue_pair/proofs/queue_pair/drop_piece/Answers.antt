@@ -1,0 +1,7 @@
+-- The closure keeps each command of another piece, and changes nothing.
+use Rattle.std.proofs.Common.{rules}
+use Rattle.std.proofs.lemmas.Fn.{filter_same}
+use Rattle.bd_queue_pair.proofs.queue_pair.drop_piece.Goals as goal
+
+pub returns-clause-items : goal.returns-clause-items
+returns-clause-items c = filter_same _ _ _ (λ x b f' called. search rules) _ _ c.retain.ensures.filtered

@@ -1,0 +1,35 @@
+//! What holds of the tables, whatever they are made of. The calls do nothing: their contracts are the laws.
+ghost use Rattle.bd_tables.specs.Laws.{AttachKeeps, ClearKeeps, DetachKeeps, DrainKeeps, DrainedKeysAreLeft, EnterKeeps, FillKeeps, HitsAreLookups, LookKeeps, OnlyOnGrants, PutKeeps, RaiseKeeps, ReadKeeps, RetireKeeps, SweepKeeps, SweptKeysAreInNoLine};
+
+/// Engines are granted and told only what rights and cells say.
+pub fn walks_answer_the_lookup()
+    ensures grants { OnlyOnGrants }
+    ensures hits { HitsAreLookups }
+{}
+
+/// The tables stay sound through each turn of an engine.
+pub fn engines_keep_the_tables_sound()
+    ensures enter { EnterKeeps }
+    ensures look { LookKeeps }
+    ensures read { ReadKeeps }
+    ensures fill { FillKeeps }
+    ensures retire { RetireKeeps }
+{}
+
+/// The tables stay sound through each change by the kernel. In particular a filled entry or a raised limit lowers
+/// nothing that an engine or a line holds.
+pub fn the_kernel_keeps_the_tables_sound()
+    ensures attach { AttachKeeps }
+    ensures clear { ClearKeeps }
+    ensures drain { DrainKeeps }
+    ensures sweep { SweepKeeps }
+    ensures detach { DetachKeeps }
+    ensures put { PutKeeps }
+    ensures raise { RaiseKeeps }
+{}
+
+/// Nothing of a key is left in engines after its drain, and nothing in the cache after its sweeps.
+pub fn revocation_leaves_nothing()
+    ensures drained { DrainedKeysAreLeft }
+    ensures swept { SweptKeysAreInNoLine }
+{}

@@ -1,0 +1,266 @@
+//! Walks and revocations over tables for one thread, by functions that know only the traits.
+ghost use Rattle.std.specs.Prelude.{◌≡◌, ◌≢◌, ℕ, ◌/◌, ◌<◌, ◌≤◌, None, Some, length, All, IfOk};
+ghost use Rattle.std.specs.FinMap as fin;
+ghost use Rattle.bd_base.specs.declared.limits.TheConstants.{PART_BLOCKS, PROCESSES};
+ghost use Rattle.bd_lines.specs.declared.lines.TheConstants.{LINES};
+ghost use Rattle.bd_tables.specs.declared.state.Walk.TheVariants.{Idle};
+ghost use Rattle.bd_tables.specs.Answers.{AllStay, GivesBack, IsAnswered, IsEntered};
+ghost use Rattle.bd_tables.specs.Kernel.{HasLimit, IsDrained, IsLimit, IsOn, KeyIs, key_detached};
+ghost use Rattle.bd_tables.specs.Passes.{IsLent};
+ghost use Rattle.bd_tables.specs.Plain.{kernel_of};
+ghost use Rattle.bd_tables.specs.Sweeps.{lines_swept};
+
+use crate::{
+    Cell, Completion, Drained, EngineSide, KernelSide, Key, LINES, Looked, PlainPass, PlainTables,
+    Request, Walked,
+};
+use bd_base::{BlockNo, Fd, FileId, Found, Part, Pid, Steps};
+use std::alloc::Global;
+use std::marker::Brand;
+use std::process::Abort;
+use std::sync::ledger::{Blank, Ledger};
+use std::test::Fail;
+
+/// What a walk came to.
+#[derive(Clone, Copy, Debug, PartialEq, Eq)]
+struct Outcome {
+    told: Option<Completion>,
+    found: Option<Found>,
+    hit: bool,
+}
+
+/// Reads the entry, and fills the line where there is one.
+fn read_and_fill<T: EngineSide, L: Ledger>(
+    tables: &mut T,
+    pass: T::Pass,
+    steps: &mut Steps<L>,
+) -> T::Pass
+    requires is_of { T.is_of tables.old pass }
+    requires entered { IsEntered (T.walk pass) }
+    ensures answered { IsAnswered (T.walk result) }
+    ensures given_back { GivesBack T.is_of T.process tables.old tables.new pass result }
+{
+    let (pass, walked) = tables.read_entry(pass, steps);
+    match walked {
+        Walked::Granted => tables.fill(pass, steps),
+        Walked::Missed(_) => pass,
+    }
+}
+
+/// Looks into the line, and reads the entry where that misses.
+fn look_up<T: EngineSide, L: Ledger>(
+    tables: &mut T,
+    pass: T::Pass,
+    steps: &mut Steps<L>,
+) -> (T::Pass, bool)
+    requires is_of { T.is_of tables.old pass }
+    requires entered { IsEntered (T.walk pass) }
+    ensures answered { IsAnswered (T.walk result.0) }
+    ensures given_back { GivesBack T.is_of T.process tables.old tables.new pass result.0 }
+{
+    let (pass, looked) = tables.look(pass, steps);
+    match looked {
+        Looked::Hit => (pass, true),
+        Looked::Miss => (read_and_fill(tables, pass, steps), false),
+    }
+}
+
+/// A walk from the enter to its answer.
+fn ask<T: EngineSide, L: Ledger>(
+    tables: &mut T,
+    pass: T::Pass,
+    request: Request,
+    steps: &mut Steps<L>,
+) -> (T::Pass, bool)
+    requires is_of { T.is_of tables.old pass }
+    requires idle { T.walk pass ≡ Idle }
+    requires own { T.process pass ≡ request.key.process }
+    requires part { request.key.part ≡ request.index / PART_BLOCKS }
+    requires hi { IsLimit request.hi }
+    ensures answered { IsAnswered (T.walk result.0) }
+    ensures given_back { GivesBack T.is_of T.process tables.old tables.new pass result.0 }
+{
+    let (pass, walked) = tables.enter(pass, request, steps);
+    match walked {
+        Walked::Granted => look_up(tables, pass, steps),
+        Walked::Missed(_) => (pass, false),
+    }
+}
+
+/// A whole walk, from the enter to the retirement.
+fn walk<T: EngineSide, L: Ledger>(
+    tables: &mut T,
+    pass: T::Pass,
+    request: Request,
+    steps: &mut Steps<L>,
+) -> (T::Pass, Outcome)
+    requires is_of { T.is_of tables.old pass }
+    requires idle { T.walk pass ≡ Idle }
+    requires own { T.process pass ≡ request.key.process }
+    requires part { request.key.part ≡ request.index / PART_BLOCKS }
+    requires hi { IsLimit request.hi }
+    ensures idle { T.walk result.0 ≡ Idle }
+    ensures given_back { GivesBack T.is_of T.process tables.old tables.new pass result.0 }
+{
+    let (pass, hit) = ask(tables, pass, request, steps);
+    let told = tables.told(&pass);
+    let found = tables.found(&pass);
+    let pass = tables.retire(pass, steps);
+    (pass, Outcome { told, found, hit })
+}
+
+/// Sweeps all lines for a key that is drained.
+fn sweep_all<T: KernelSide>(tables: &mut T, key: &Key)
+    requires { KeyIs IsDrained (T.kernel tables.old) key.now }
+    ensures swept { T.kernel tables.new ≡ lines_swept (T.kernel tables.old) LINES key.now }
+    ensures passes { AllStay T.is_of tables.old tables.new }
+{
+    for line in 0..LINES as u8 {
+        tables.sweep(line, *key);
+    }
+}
+
+/// Revokes a right, unless an engine is in its key.
+fn revoke<T: KernelSide>(tables: &mut T, key: &Key) -> Drained
+    requires { KeyIs IsOn (T.kernel tables.old) key.now }
+    ensures revoked { result ≡ Drained.Yes
+        → T.kernel tables.new ≡ key_detached (T.kernel tables.old) key.now }
+    ensures passes { AllStay T.is_of tables.old tables.new }
+{
+    tables.clear(*key);
+    let drained = tables.drained(*key);
+    match drained {
+        Drained::Yes => {
+            sweep_all(tables, key);
+            tables.detach(*key);
+            Drained::Yes
+        }
+        Drained::NotYet(count) => Drained::NotYet(count),
+    }
+}
+
+/// Asks for bytes of a block of part 0, and comes back.
+fn visit<T: EngineSide, L: Ledger>(
+    tables: &mut T,
+    pass: T::Pass,
+    key: &Key,
+    asked: (u32, u16, bool),
+    steps: &mut Steps<L>,
+) -> (T::Pass, Outcome)
+    requires is_of { T.is_of tables.old pass }
+    requires idle { T.walk pass ≡ Idle }
+    requires own { T.process pass ≡ key.now.process }
+    requires part { key.now.part ≡ 0 }
+    requires index { asked.0 < PART_BLOCKS }
+    requires hi { IsLimit asked.1 }
+    ensures is_of { T.is_of tables.new result.0 }
+    ensures idle { T.walk result.0 ≡ Idle }
+    ensures own { T.process result.0 ≡ key.now.process }
+{
+    let (index, hi, write) = asked;
+    let request = Request {
+        key: *key,
+        index,
+        hi,
+        write,
+    };
+    walk(tables, pass, request, steps)
+}
+
+fn key(process: u64, fd: u64) -> Result<Key, Fail>
+    ensures { IfOk result (λ key. (key.process ≡ process) × (key.part ≡ 0)) }
+{
+    Ok(Key {
+        process: Pid::new(process).ok_or("a process")?,
+        fd: Fd::new(fd).ok_or("a descriptor")?,
+        part: Part::new(0).ok_or("a part")?,
+    })
+}
+
+fn cell(block: u64, limit: u16) -> Result<Cell, Fail>
+    ensures { IfOk result (λ cell. cell.limit ≡ limit) }
+{
+    Ok(Cell {
+        block: BlockNo::new(block).ok_or("a block")?,
+        limit,
+    })
+}
+
+/// Tables with one right, to two blocks of a file, and the pass of its process.
+fn start(alloc: Global, key: &Key) -> Result<(PlainTables, PlainPass), Fail>
+    requires { key.now.process < PROCESSES }
+    ensures lent { IfOk result (λ both. IsLent both.0 both.1) }
+    ensures idle { IfOk result (λ both. both.1.walk ≡ Idle) }
+    ensures own { IfOk result (λ both. both.1.process ≡ key.now.process) }
+    ensures on { IfOk result (λ both. KeyIs IsOn (kernel_of both.0) key.now) }
+{
+    let mut tables = PlainTables::new(alloc, 16)?;
+    let file = FileId::new(255).ok_or("a file")?;
+    let cells = [cell(9, 4096)?, cell(7, 100)?];
+    tables.attach(*key, file, false, &cells)?;
+    let pass = tables.lend(key.process);
+    Ok((tables, pass))
+}
+
+fn told(block: u64, limit: u16, hit: bool) -> Result<Outcome, Fail> {
+    let completion = Completion {
+        read: true,
+        write: false,
+        block: BlockNo::new(block).ok_or("a block")?,
+        limit,
+    };
+    Ok(Outcome {
+        told: Some(completion),
+        found: None,
+        hit,
+    })
+}
+
+fn refused(found: Found) -> Outcome {
+    Outcome {
+        told: None,
+        found: Some(found),
+        hit: false,
+    }
+}
+
+fn some_walks<L: Ledger>(rt: &impl Abort, alloc: Global, blank: Blank) -> Result<(), Fail>
+    requires name { blank.name ≡ L.name }
+    requires parts { blank.parts ≡ L.parts }
+    requires some { 0 < blank.parts }
+{
+    let mut steps = Steps::<L>::open(blank);
+    let ours = key(15, 7)?;
+    let (mut tables, pass) = start(alloc, &ours)?;
+    let (pass, outcome) = visit(&mut tables, pass, &ours, (1, 100, false), &mut steps);
+    assert_eq!(rt; outcome, told(7, 100, false)?);
+    let (pass, outcome) = visit(&mut tables, pass, &ours, (1, 5, false), &mut steps);
+    assert_eq!(rt; outcome, told(7, 100, true)?);
+    let (pass, outcome) = visit(&mut tables, pass, &ours, (1, 101, false), &mut steps);
+    assert_eq!(rt; outcome, refused(Found::Beyond(100)));
+    let (pass, outcome) = visit(&mut tables, pass, &ours, (2, 1, false), &mut steps);
+    assert_eq!(rt; outcome, refused(Found::NoEntry));
+    let (pass, outcome) = visit(&mut tables, pass, &ours, (0, 1, true), &mut steps);
+    assert_eq!(rt; outcome, refused(Found::NoRight));
+    tables.take_back(pass);
+    Ok(())
+}
+
+#[test]
+fn walks_hit_and_miss(rt: HostRuntime) -> Result<(), Fail> {
+    some_walks::<Brand>(&rt, rt.alloc(), Blank::new(1))
+}
+
+#[test]
+fn a_right_is_revoked(rt: HostRuntime) -> Result<(), Fail> {
+    let ours = key(0, 3)?;
+    let (mut tables, pass) = start(rt.alloc(), &ours)?;
+    tables.take_back(pass);
+    assert!(rt; tables.attached(key(0, 3)?));
+    assert_eq!(rt; tables.in_use(), 1);
+    let drained = revoke(&mut tables, &ours);
+    assert_eq!(rt; drained, Drained::Yes);
+    assert!(rt; !tables.attached(key(0, 3)?));
+    assert_eq!(rt; tables.in_use(), 0);
+    Ok(())
+}

@@ -1,0 +1,138 @@
+-- What each command promises: what stands behind the end that its status tells, and which end its inputs lead to.
+use Rattle.std.specs.Prelude.{◌≡◌, ◌⊎◌, ℕ, ◌+◌, List, [], Option, None, Some}
+use Rattle.bd_base.specs.declared.limits.TheConstants.{IMAGE_SIZE, SCRIPT_SIZE}
+use Rattle.bd_base.specs.declared.script.Script.{Script}
+use Rattle.bd_base.specs.declared.volume.Volume.{Volume}
+use Rattle.bd_image.specs.Rules.{Accepted, Broken}
+use Rattle.bd_image.specs.Volumes.{volume_of}
+use Rattle.bd_machine.specs.Refusals.{IsNotSimple}
+use Rattle.bd_machine.specs.Simple.{IsSimpleText}
+use Rattle.bd_outside.specs.Around.{Left, ReadAtMost, ReadNothing, Reading, WriteFailed, Writing, Wrote, WroteNothing, WrotePrefix}
+use Rattle.bd_top.specs.declared.status.Outcome.{Outcome}
+use Rattle.bd_top.specs.declared.status.Status.{Status}
+use Rattle.bd_top.specs.declared.status.Status.TheVariants.{Done, ReadFault, WriteFault, BadImage, BadScript, OutOfMemory}
+use Rattle.bd_top.specs.declared.status.To.TheVariants.{Out, Disk}
+use Rattle.bd_top.specs.CheckLine.{check_line}
+use Rattle.bd_top.specs.Inputs.{IsImageRead, RefusesImage, RefusesReplay}
+use Rattle.bd_top.specs.Runs.{IsReplay}
+use Rattle.bd_top.specs.Words.{Request, check_of, replay_of}
+
+-- the sources and sinks of a command around the call
+pub record Around : Type 0 where
+  pub image : Reading
+  pub script : Reading
+  pub out : Writing
+  pub disk : Writing
+
+-- the status tells that a call failed or that no memory was found; the end that it tells says which
+abbrev pub IsFault : Status → Type 0
+IsFault (ReadFault which) = Unit {0}
+IsFault (WriteFault to) = Unit {0}
+IsFault OutOfMemory = Unit {0}
+IsFault status = ⊥
+
+-- the inputs alone decide the status, where no call fails and memory is found
+abbrev pub Decide : (Status → Type 0) → Status → Type 0
+Decide LeadTo status = (decided : Status) → LeadTo decided → (status ≡ decided) ⊎ IsFault status
+
+-- there is no run
+pub record NoRun (outcome : Outcome) : Type 0 where
+  pub no_journal : outcome.journal ≡ []
+  pub no_trace : outcome.trace ≡ []
+
+-- ---- replay
+
+-- how far the report and then the image were written: nothing goes to disk before the whole report is out
+abbrev pub RunWritten : Writing → Writing → List ℕ → List ℕ → Status → Type 0
+RunWritten out disk report left Done = Wrote out report × Wrote disk left
+RunWritten out disk report left (WriteFault Out) = WriteFailed out × WrotePrefix out report × WroteNothing disk
+RunWritten out disk report left (WriteFault Disk) = WriteFailed disk × Wrote out report × WrotePrefix disk left
+RunWritten out disk report left OutOfMemory =
+    (WrotePrefix out report × WroteNothing disk) ⊎ (Wrote out report × WrotePrefix disk left)
+RunWritten out disk report left status = ⊥
+
+-- a replay was refused, and nothing was done
+pub record ReplayRefused (around : Around) (outcome : Outcome) : Type 0 where
+  pub refused : RefusesReplay around.image around.script outcome.status
+  pub no_run : NoRun outcome
+  pub out_same : WroteNothing around.out
+  pub disk_same : WroteNothing around.disk
+
+-- a run was made, and its report and the image that it left were written so far
+pub record ReplayRan (around : Around) (outcome : Outcome) : Type 0 where
+  pub report : List ℕ
+  pub left : List ℕ
+  pub run : IsReplay around.image around.script outcome.journal outcome.trace report left
+  pub written : RunWritten around.out around.disk report left outcome.status
+
+-- what stands behind the end of a replay
+abbrev pub ReplayEnd : Around → Outcome → Type 0
+ReplayEnd around outcome = ReplayRefused around outcome ⊎ ReplayRan around outcome
+
+-- the status to which an image and a script lead
+abbrev pub LeadReplayTo : Reading → Reading → Status → Type 0
+LeadReplayTo image text (BadImage rule place) = Left image (λ b. Broken b rule place)
+LeadReplayTo image text (BadScript line rule) =
+    Left image (λ b. Accepted b × Left text (IsNotSimple (volume_of b))) × (line ≡ 0) × (rule ≡ 0)
+LeadReplayTo image text Done =
+    Left image (λ b. Accepted b × Left text (λ t. (script : Script) × IsSimpleText (volume_of b) t script))
+LeadReplayTo image text status = ⊥
+
+-- what `replay` promises
+pub record Replays (around : Around) (outcome : Outcome) : Type 0 where
+  pub end : ReplayEnd around outcome
+  pub decided : Decide (LeadReplayTo around.image around.script) outcome.status
+  pub image_taken : ReadAtMost (IMAGE_SIZE + 1) around.image
+  pub script_taken : ReadAtMost (SCRIPT_SIZE + 1) around.script
+
+-- ---- check
+
+-- how far a line was written
+abbrev pub LineWritten : Writing → List ℕ → Status → Type 0
+LineWritten out line Done = Wrote out line
+LineWritten out line (WriteFault Out) = WriteFailed out × WrotePrefix out line
+LineWritten out line OutOfMemory = WrotePrefix out line
+LineWritten out line status = ⊥
+
+-- the image was read, and the line that tells of it was written so far
+abbrev pub CheckTold : Reading → Writing → Status → Type 0
+CheckTold image out status = (v : Volume) × IsImageRead image v × LineWritten out (check_line v) status
+
+-- what stands behind the end of a check: the image was refused and nothing written, or the line tells of it
+abbrev pub CheckEnd : Reading → Writing → Status → Type 0
+CheckEnd image out status = (RefusesImage image status × WroteNothing out) ⊎ CheckTold image out status
+
+-- the status to which an image leads
+abbrev pub LeadCheckTo : Reading → Status → Type 0
+LeadCheckTo image (BadImage rule place) = Left image (λ b. Broken b rule place)
+LeadCheckTo image Done = Left image Accepted
+LeadCheckTo image status = ⊥
+
+-- what `check` promises
+pub record Checks (image : Reading) (out : Writing) (status : Status) : Type 0 where
+  pub end : CheckEnd image out status
+  pub decided : Decide (LeadCheckTo image) status
+  pub image_taken : ReadAtMost (IMAGE_SIZE + 1) image
+
+-- ---- all commands
+
+-- no script was read, nothing went to disk, and there is no run
+pub record OnlyChecks (around : Around) (outcome : Outcome) : Type 0 where
+  pub checks : Checks around.image around.out outcome.status
+  pub script_same : ReadNothing around.script
+  pub disk_same : WroteNothing around.disk
+  pub no_run : NoRun outcome
+
+-- nothing was read, written or run
+pub record DoesNothing (around : Around) (outcome : Outcome) : Type 0 where
+  pub image_same : ReadNothing around.image
+  pub script_same : ReadNothing around.script
+  pub out_same : WroteNothing around.out
+  pub disk_same : WroteNothing around.disk
+  pub no_run : NoRun outcome
+
+-- what was asked for was done, as that command promises it; where nothing was asked for, nothing was done
+abbrev pub Does : Option Request → Around → Outcome → Type 0
+Does None around outcome = DoesNothing around outcome
+Does (Some (replay_of image script out)) around outcome = Replays around outcome
+Does (Some (check_of image)) around outcome = OnlyChecks around outcome

@@ -1,0 +1,28 @@
+-- What a first store and a script determine.
+use Rattle.std.proofs.Common.{◌≡◌, ◌<◌, ℕ, ap, sym, ◌∙◌, ⊎_elim}
+use Rattle.std.proofs.lemmas.Bool.{both_ways, cases_order}
+use Rattle.bd_base.specs.declared.script.Script.{Script}
+use Rattle.bd_entry.specs.Store.{Store}
+use Rattle.bd_turns.specs.Course.{EndsAt, events_to, state_at}
+use Rattle.bd_turns.specs.Laws.{HasOneCourse}
+use Rattle.bd_turns.specs.Turns.{all_ended}
+
+-- a run does not end twice
+not_later : (start : Store) (script : Script) (k n : ℕ) → EndsAt start script k → EndsAt start script n → k < n → ⊥
+not_later start script k n first last before =
+    both_ways (all_ended (state_at start script k)) (last.not_before k first.after_schedule before) first.ended
+
+-- a run ends before one turn alone
+one_end : (start : Store) (script : Script) (k n : ℕ) → EndsAt start script k → EndsAt start script n → k ≡ n
+one_end start script k n first last =
+    ⊎_elim (λ same. same)
+    (⊎_elim (λ before. absurd (not_later start script k n first last before))
+    (λ after. absurd (not_later start script n k last first after)))
+    (cases_order k n)
+
+pub one_course : HasOneCourse
+one_course start script trace other m n c d =
+    let turns : c.turns ≡ d.turns = one_end start script c.turns d.turns c.ends d.ends in (
+      c.trace_is ∙ ap (events_to start script) turns ∙ sym d.trace_is,
+      c.state_is ∙ ap (state_at start script) turns ∙ sym d.state_is,
+    )

@@ -1,0 +1,3 @@
+-- Lemmas on turns and runs.
+pub mod Growing
+pub mod Determined

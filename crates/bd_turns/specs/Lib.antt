@@ -1,0 +1,8 @@
+-- The abstract machine: its state, its turns, its runs, and what holds at every moment.
+pub mod State
+pub mod Processors
+pub mod Engines
+pub mod Turns
+pub mod Course
+pub mod Sound
+pub mod Laws

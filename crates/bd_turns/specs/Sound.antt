@@ -1,0 +1,276 @@
+-- What holds of the abstract machine at every moment, and the laws of its turns.
+use Rattle.std.specs.Prelude.{◌≡◌, ◌≢◌, ◌⊎◌, ℕ, ◌<◌, ◌≤◌, nat_eq, Bool, true, false, ◌||◌, List, [], ◌∷◌, ◌++◌, map, length, count_by, slice_get, IsSome, IsTrue, All, Option, None, Some}
+use Rattle.std.specs.List.{list_any}
+use Rattle.std.specs.FinMap as fin
+use Rattle.bd_base.specs.declared.journal.At.{At}
+use Rattle.bd_base.specs.declared.journal.Found.{Found}
+use Rattle.bd_base.specs.declared.key.Cell.{Cell}
+use Rattle.bd_base.specs.declared.key.Key.{Key}
+use Rattle.bd_base.specs.declared.script.Call.{Call}
+use Rattle.bd_base.specs.declared.script.Call.TheVariants.{Enter, Close, Truncate, Unlink}
+use Rattle.bd_base.specs.declared.script.How.TheVariants as hows
+use Rattle.bd_base.specs.declared.script.Mode.TheVariants.{Rw}
+use Rattle.bd_base.specs.declared.script.Script.{Script}
+use Rattle.bd_base.specs.Keys.{same_key}
+use Rattle.bd_base.specs.Scripts.{IsWithinLimits}
+use Rattle.bd_entry.specs.declared.entry.Entry.{Entry}
+use Rattle.bd_entry.specs.declared.entry.Entry.TheVariants as entries
+use Rattle.bd_entry.specs.Calls.{Place, call_at, calls_of, has_missed, is_answered, is_ended_by, pieces_of_call}
+use Rattle.bd_entry.specs.History.{InOrderSoFar, Legal}
+use Rattle.bd_entry.specs.Refusals.{file_of}
+use Rattle.bd_entry.specs.RulesOfRights.{HasRights}
+use Rattle.bd_entry.specs.Store.{Descriptor, Store, Valid, blocks_in, descriptor_at, has_open, has_part, limit_in}
+use Rattle.bd_tables.specs.declared.request.Request.{Request}
+use Rattle.bd_tables.specs.declared.state.Right.{Right}
+use Rattle.bd_tables.specs.declared.state.RightState.{RightState}
+use Rattle.bd_tables.specs.declared.state.RightState.TheVariants as states
+use Rattle.bd_tables.specs.declared.state.Walk.TheVariants as walks
+use Rattle.bd_tables.specs.Sound.{IsSound}
+use Rattle.bd_tables.specs.State.{TableState, is_in, lookup, walk_at}
+use Rattle.bd_turns.specs.Engines.{request_of_piece}
+use Rattle.bd_entry.specs.Actions.{keys_on}
+use Rattle.bd_turns.specs.Processors.{is_posted}
+use Rattle.bd_turns.specs.State.{Completed, InHand, Phase, Looking, Reading, Filling, Moving, Missing, Retiring, Completing, Posted, Progress, State, does_hold, has_ended, outstanding, progress_of, running}
+use Rattle.bd_turns.specs.Turns.{SomeActorActs, after_turn, answer_of, LowersRest, process_count, may_write}
+
+-- ---- rights and the tables
+
+-- the right of a descriptor on a part is attached in the store
+abbrev pub is_attached : Store → Key → Option Descriptor → Bool
+is_attached s key None = false
+is_attached s key (Some d) = has_part key.part d.attached
+
+-- whether the right is revoked: its directory entry is cleared
+abbrev pub is_revoked : RightState → Bool
+is_revoked states.On = false
+is_revoked states.Cleared = true
+is_revoked (states.Drained swept) = true
+
+-- a right of the tables is the one of the descriptor in the store: attached, of its file, in its mode, and cleared there
+-- exactly where it is revoked
+pub record IsRightOf (key : Key) (right : Right) (d : Descriptor) : Type 0 where
+  pub file : right.file ≡ d.file
+  pub write : right.write ≡ may_write d.mode
+  pub attached : has_part key.part d.attached ≡ true
+  pub cleared : has_part key.part d.cleared ≡ is_revoked right.state
+
+-- the rights of the tables are just the attached ones of the store
+pub record AreRightsOf (m : State) : Type 0 where
+  pub told : (key : Key) (right : Right) → fin.get m.tables.rights key ≡ Some right →
+      (d : Descriptor) × (descriptor_at m.store key.process key.fd ≡ Some d) × IsRightOf key right d
+  pub all : (key : Key) (d : Descriptor) → descriptor_at m.store key.process key.fd ≡ Some d →
+      has_part key.part d.attached ≡ true → IsSome (fin.get m.tables.rights key)
+
+-- the cell of a block of a file, None where it has no such block
+abbrev pub cell_of_block : Store → ℕ → ℕ → Option Cell
+cell_of_block s file index = cell_from (limit_in s file index) (slice_get (blocks_in s file) index)
+  where
+    cell_from : ℕ → Option ℕ → Option Cell
+    cell_from limit None = None
+    cell_from limit (Some block) = Some (record { block = block; limit = limit })
+
+-- the lookup of each attached key is the file's block of that index with its limit
+abbrev pub AreLookupsOf : State → Type 0
+AreLookupsOf m =
+    (key : Key) (right : Right) (index : ℕ) → fin.get m.tables.rights key ≡ Some right →
+    lookup m.tables key index ≡ cell_of_block m.store right.file index
+
+-- ---- engines
+
+-- where the walk of an engine is that goes on so with this request
+abbrev pub IsWalkAt : Phase → Request → TableState → ℕ → Type 0
+IsWalkAt Looking request tables process = walk_at tables.walks process ≡ walks.Entered request
+IsWalkAt Reading request tables process = walk_at tables.walks process ≡ walks.Entered request
+IsWalkAt Filling request tables process =
+    (completion : _) × (walk_at tables.walks process ≡ walks.Translated request completion)
+IsWalkAt Moving request tables process =
+    (completion : _) × (walk_at tables.walks process ≡ walks.Translated request completion)
+IsWalkAt Missing request tables process =
+    (found : Found) × (walk_at tables.walks process ≡ walks.Refused request found)
+IsWalkAt Retiring request tables process =
+    ((completion : _) × (walk_at tables.walks process ≡ walks.Translated request completion))
+    ⊎ ((found : Found) × (walk_at tables.walks process ≡ walks.Refused request found))
+IsWalkAt Completing request tables process = walk_at tables.walks process ≡ walks.Idle
+
+-- an engine with a command in its hand walks for the request of that command
+pub record IsWalkFor (m : State) (p : Place) (hand : InHand) : Type 0 where
+  pub request : Request
+  pub of_piece : request_of_piece p hand.piece ≡ Some request
+  pub walk : IsWalkAt hand.phase request m.tables p.at.process
+
+-- what a refused walk found may be noted: the entry would keep the rule of rights
+abbrev pub MayNote : State → Type 0
+MayNote m =
+    (p : Place) (hand : InHand) (request : Request) (found : Found) →
+    running m p.at.process ≡ Some p → (progress_of m p.at.process).hand ≡ Some hand → hand.phase ≡ Missing →
+    walk_at m.tables.walks p.at.process ≡ walks.Refused request found →
+    HasRights m.store p (entries.Missed p.at hand.piece found)
+
+-- an engine without a command is in no key
+abbrev pub IsIdleWithout : State → Type 0
+IsIdleWithout m =
+    (process : ℕ) → (progress_of m process).hand ≡ None → walk_at m.tables.walks process ≡ walks.Idle
+
+-- ---- revocation
+
+-- whether the entry clears the right of this key
+abbrev pub is_clear_at : Key → Entry → Bool
+is_clear_at key (entries.Cleared at owner fd part) =
+    same_key key (record { process = owner; fd = fd; part = part })
+is_clear_at key entry = false
+
+-- a posted key is Cleared, or Drained at the front alone
+abbrev pub IsPostedState : ℕ → RightState → Type 0
+IsPostedState number states.On = ⊥
+IsPostedState number states.Cleared = Unit {0}
+IsPostedState number (states.Drained swept) = number ≡ 0
+
+-- the posted keys differ; each is one that its running call cleared; only the front one may be drained
+pub record ArePosted (m : State) : Type 0 where
+  pub differ : (i j : ℕ) (first second : Posted) → slice_get m.posted i ≡ Some first →
+      slice_get m.posted j ≡ Some second → first.key ≡ second.key → i ≡ j
+  pub by_running : (number : ℕ) (post : Posted) → slice_get m.posted number ≡ Some post →
+      (p : Place) × (running m post.by.process ≡ Some p) × (p.at ≡ post.by)
+      × IsTrue (list_any (is_clear_at post.key) p.before)
+  pub state_of : (number : ℕ) (post : Posted) → slice_get m.posted number ≡ Some post →
+      (right : Right) × (fin.get m.tables.rights post.key ≡ Some right) × IsPostedState number right.state
+  pub drained : (key : Key) (right : Right) (swept : List Bool) → fin.get m.tables.rights key ≡ Some right →
+      right.state ≡ states.Drained swept →
+      (post : Posted) × (slice_get m.posted 0 ≡ Some post) × (post.key ≡ key)
+
+-- a right that is revoked is one that the running call of the process that holds its file cleared
+pub record IsBeingRevoked (m : State) (key : Key) (right : Right) : Type 0 where
+  pub holder : ℕ
+  pub held : (progress_of m holder).held ≡ Some right.file
+  pub place : Place
+  pub running_is : running m holder ≡ Some place
+  pub cleared : list_any (is_clear_at key) place.before ≡ true
+
+-- each right that is revoked is being revoked by the holder of its file
+abbrev pub AreRevokedByHolders : State → Type 0
+AreRevokedByHolders m =
+    (key : Key) (right : Right) → fin.get m.tables.rights key ≡ Some right → is_revoked right.state ≡ true →
+    IsBeingRevoked m key right
+
+-- of the rights that are revoked on one file at most one is not posted: the one that its call cleared last
+abbrev pub IsOneUnposted : State → Type 0
+IsOneUnposted m =
+    (first second : Key) (a b : Right) → fin.get m.tables.rights first ≡ Some a → fin.get m.tables.rights second ≡ Some b →
+    a.file ≡ b.file → is_revoked a.state ≡ true → is_revoked b.state ≡ true → is_posted m.posted first ≡ false →
+    is_posted m.posted second ≡ false → first ≡ second
+
+-- ---- holds
+
+-- no file is held by two processes
+abbrev pub IsHeldOnce : State → Type 0
+IsHeldOnce m =
+    (file first second : ℕ) → does_hold file (progress_of m first) ≡ true → does_hold file (progress_of m second) ≡ true →
+    first ≡ second
+
+-- a process that holds a file has a running call, whose file that is
+abbrev pub AreHoldsOfCalls : State → Type 0
+AreHoldsOfCalls m =
+    (process file : ℕ) → (progress_of m process).held ≡ Some file →
+    (p : Place) × (running m process ≡ Some p) × (file_of m.store p ≡ Some file)
+
+-- ---- commands
+
+-- how a command of this piece stands in the journal: it is answered or missed exactly from the turn of its engine on
+-- that says so
+abbrev pub is_told : Place → ℕ → Bool
+is_told p piece = is_answered piece p.before || has_missed piece p.before
+
+-- whether the engine has said in the journal what became of the command in its hand
+abbrev pub has_told : Phase → Bool
+has_told Looking = false
+has_told Reading = false
+has_told Filling = false
+has_told Moving = false
+has_told Missing = false
+has_told Retiring = true
+has_told Completing = true
+
+-- the commands of a process are those of different pieces of its running call; the journal tells of one exactly from
+-- its engine's turn on that says so
+pub record AreCommands (p : Place) (progress : Progress) : Type 0 where
+  pub differ : (piece : ℕ) → count_by (nat_eq piece) (outstanding progress) ≤ 1
+  pub pieces : All (λ piece. piece < length (pieces_of_call p.call)) (outstanding progress)
+  pub submitted : All (λ piece. is_told p piece ≡ false) progress.submitted
+  pub in_hand : (hand : InHand) → progress.hand ≡ Some hand → is_told p hand.piece ≡ has_told hand.phase
+  pub completed : All (λ (done : Completed).
+      (is_told p done.piece ≡ true) × (done.missed ≡ has_missed done.piece p.before)) progress.completed
+
+-- the commands of each process are those of its running call; a process without one has none
+pub record AreCommandsOfCalls (m : State) : Type 0 where
+  pub of_running : (process : ℕ) (p : Place) → running m process ≡ Some p → AreCommands p (progress_of m process)
+  pub none : (process : ℕ) → running m process ≡ None → outstanding (progress_of m process) ≡ []
+
+-- the running call has not ended
+abbrev pub AreUnended : State → Type 0
+AreUnended m =
+    (process : ℕ) (p : Place) → running m process ≡ Some p →
+    has_ended p.call p.before (progress_of m process) ≡ false
+
+-- ---- calls that need a file without rights
+
+-- whether the entry releases a block
+abbrev pub is_release : Entry → Bool
+is_release (entries.Released at file index block) = true
+is_release entry = false
+
+-- no right is attached on the file of a truncation that has released a block
+abbrev pub IsFreeOfRights : State → Place → Call → Type 0
+IsFreeOfRights m p (Truncate fd size) =
+    list_any is_release p.before ≡ true → (file : ℕ) → file_of m.store p ≡ Some file → keys_on m.store file ≡ []
+IsFreeOfRights m p call = Unit {0}
+
+-- the file of a removal that has begun is not open
+abbrev pub IsNotOpen : State → Place → Call → Type 0
+IsNotOpen m p (Unlink name) =
+    p.before ≢ [] → (file : ℕ) → file_of m.store p ≡ Some file → has_open m.store file ≡ false
+IsNotOpen m p call = Unit {0}
+
+-- ---- all of it
+
+-- each process has its progress and its walk, and no more calls have ended than there are
+pub record HasProcesses (m : State) : Type 0 where
+  pub progress : length m.processes ≡ process_count m
+  pub walks : length m.tables.walks ≡ process_count m
+  pub ended : (process : ℕ) → (progress_of m process).ended ≤ length (calls_of m.script process)
+
+-- what holds of a state at every moment, each for a reason of its own:
+-- `valid`: entries are legal, and a legal entry keeps a store valid.
+-- `rights`: an Attach, a Clear and a DetachDone change the store and the tables alike, and nothing else changes a right.
+-- `lookups`: an Attach hands in the cells of the file's blocks; a growth fills or raises them in the same turn; and no
+--    block of a file goes while a right on it is attached.
+-- `tables`: the effects of bd_tables keep it: who is granted has a right that is not drained, what is held or cached is
+--    an entry, and after its sweep no line names a drained key, since a fill needs an engine that is granted.
+-- `hands`, `idle`: an engine changes its walk and its hand together.
+-- `notable`: what a walk missed for stays so until it is noted, since a right that is not there when a piece enters does
+--    not come while its process's call runs, and the known size stays too.
+-- `posted`, `revoked`, `one_unposted`: only a call that holds the file clears its keys, each is posted in the next turn
+--    of that call, and the invalidation engine works at the front alone.
+-- `held_once`, `holds`: a call that would hold a file waits while another holds it.
+-- `commands`, `unended`: a processor submits each piece once and polls each completion once, and ends its call when
+--    nothing is left.
+-- `free_of_rights`, `not_open`: the file is held, so no right on it is attached and no descriptor of it is opened.
+pub record Sound (m : State) : Type 0 where
+  pub limits : IsWithinLimits m.script
+  pub processes : HasProcesses m
+  pub valid : Valid m.store
+  pub rights : AreRightsOf m
+  pub lookups : AreLookupsOf m
+  pub tables : IsSound m.tables
+  pub hands : (process : ℕ) (p : Place) (hand : InHand) → running m process ≡ Some p →
+      (progress_of m process).hand ≡ Some hand → IsWalkFor m p hand
+  pub idle : IsIdleWithout m
+  pub notable : MayNote m
+  pub posted : ArePosted m
+  pub revoked : AreRevokedByHolders m
+  pub one_unposted : IsOneUnposted m
+  pub held_once : IsHeldOnce m
+  pub holds : AreHoldsOfCalls m
+  pub commands : AreCommandsOfCalls m
+  pub unended : AreUnended m
+  pub free_of_rights : (process : ℕ) (p : Place) → running m process ≡ Some p → IsFreeOfRights m p p.call
+  pub not_open : (process : ℕ) (p : Place) → running m process ≡ Some p → IsNotOpen m p p.call

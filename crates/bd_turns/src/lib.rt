@@ -1,0 +1,8 @@
+//! The abstract machine: what each actor's turn answers, and the state after it.
+#![tactic(auto)]
+
+mod laws;
+mod turn;
+
+pub use laws::{journal_grows, one_course, turns_without_effect};
+pub use turn::{Event, EventList, Row, Turn, Wait};
