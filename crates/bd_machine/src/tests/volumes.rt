@@ -15,7 +15,7 @@ fn free_records(alloc: Global) -> Result<InodeList, OutOfMemory>
     ensures { IfOk result (λ records. records ≡ replicate 16 None) }
 {
     let mut records: InodeList = List::with_capacity(alloc, 16)?;
-    for _id in 0..16 {
+    for _id in 0..16u64 {
         records.push(None)?;
     }
     Ok(records)
