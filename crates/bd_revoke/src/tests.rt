@@ -1,7 +1,6 @@
 //! Revocations of rights in tables for one thread, by functions that know only the traits.
 ghost use Rattle.std.specs.Prelude.{◌≡◌, ◌+◌, ◌<◌, None, Some, [], ◌∷◌, ◌++◌, drop, length, IfOk, slice_get};
 ghost use Rattle.bd_base.specs.declared.limits.TheConstants.{POSTS};
-ghost use Rattle.bd_lines.specs.declared.lines.TheConstants.{LINES};
 ghost use Rattle.bd_tables.specs.declared.state.RightState.TheVariants.{Cleared as IsInCleared};
 ghost use Rattle.bd_tables.specs.Kernel.{IsCleared, IsDrained, IsOn, KeyIs, key_detached, key_in_state};
 ghost use Rattle.bd_tables.specs.Plain.{kernel_of};
@@ -94,7 +93,7 @@ fn clear_and_post<T: KernelSide>(
 // Sweeps all lines for a key that is drained.
 fn sweep_all<T: KernelSide>(tables: &mut T, key: &Key)
     requires { KeyIs IsDrained (T.kernel tables.old) key.now }
-    ensures { T.kernel tables.new ≡ lines_swept (T.kernel tables.old) LINES key.now }
+    ensures { T.kernel tables.new ≡ lines_swept (T.kernel tables.old) 16 key.now }
 {
     for line in 0..16 {
         tables.sweep(line, *key);

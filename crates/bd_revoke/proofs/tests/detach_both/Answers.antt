@@ -12,16 +12,16 @@ pub detached-requires : goal.detached-requires
 detached-requires g c =
     subst (λ (keys : List Key). Contains keys c.args.first.now) (sym c.requires.waiting) (first-among c.args.first.now c.args.second.now)
 
-pub invalidate-_drained-requires : goal.invalidate-_drained-requires
-invalidate-_drained-requires g c =
+pub invalidate-drained-requires : goal.invalidate-drained-requires
+invalidate-drained-requires g c =
     let first = c.args.first.now in
     let second = c.args.second.now in
     subst (λ (kernel : KernelState). KeyIs IsCleared kernel second) (sym (c.invalidate.ensures c.in-Yes.is))
     (other-detached (g.T.KernelSide.kernel c.args.tables.now) first second IsCleared
     (processes_apart second first (λ same. omega (arith, same, c.requires.differ))) c.requires.second)
 
-pub detached-requires-2 : goal.detached-requires-2
-detached-requires-2 g c =
+pub detached-requires-in-Yes : goal.detached-requires-in-Yes
+detached-requires-in-Yes g c =
     let first = c.args.first.now in
     let second = c.args.second.now in
     let left = ap (λ (r : Revocation). r.waiting) c.detached.ensures ∙ ap (without first) c.requires.waiting ∙ without-first first (second ∷ []) in

@@ -1,6 +1,5 @@
 -- A cleared key is drained, swept and detached.
 use Rattle.std.proofs.Common.{◌≡◌, ap, sym, ◌∙◌, subst}
-use Rattle.bd_lines.specs.declared.lines.TheConstants.{LINES}
 use Rattle.bd_tables.specs.declared.state.RightState.TheVariants.{Drained}
 use Rattle.bd_tables.specs.Effects.{none_swept}
 use Rattle.bd_tables.specs.Kernel.{IsDrained, IsSweptWhole, KernelState, KeyIs, key_detached, key_in_state}
@@ -16,14 +15,14 @@ sweep_all-requires g c =
 pub detach-requires : goal.detach-requires
 detach-requires g c =
     let kernel : KernelState = g.T.KernelSide.kernel c.args.tables.now in
-    let whole : g.T.KernelSide.kernel c.sweep_all.new.tables ≡ lines_swept (key_in_state kernel c.args.key.now (Drained none_swept)) LINES c.args.key.now =
-    c.sweep_all.ensures ∙ ap (λ (k : KernelState). lines_swept k LINES c.args.key.now) (c.drained.ensures.yes c.in-Yes.is) in
+    let whole : g.T.KernelSide.kernel c.sweep_all.new.tables ≡ lines_swept (key_in_state kernel c.args.key.now (Drained none_swept)) 16 c.args.key.now =
+    c.sweep_all.ensures ∙ ap (λ (k : KernelState). lines_swept k 16 c.args.key.now) (c.drained.ensures.yes c.in-Yes.is) in
     subst (λ (k : KernelState). KeyIs IsSweptWhole k c.args.key.now) (sym whole) (drained_whole-key kernel c.args.key.now c.requires)
 
 pub returns-in-Yes : goal.returns-in-Yes
 returns-in-Yes g c =
     λ yes_.
     let kernel : KernelState = g.T.KernelSide.kernel c.args.tables.now in
-    let whole : g.T.KernelSide.kernel c.sweep_all.new.tables ≡ lines_swept (key_in_state kernel c.args.key.now (Drained none_swept)) LINES c.args.key.now =
-    c.sweep_all.ensures ∙ ap (λ (k : KernelState). lines_swept k LINES c.args.key.now) (c.drained.ensures.yes c.in-Yes.is) in
+    let whole : g.T.KernelSide.kernel c.sweep_all.new.tables ≡ lines_swept (key_in_state kernel c.args.key.now (Drained none_swept)) 16 c.args.key.now =
+    c.sweep_all.ensures ∙ ap (λ (k : KernelState). lines_swept k 16 c.args.key.now) (c.drained.ensures.yes c.in-Yes.is) in
     c.detach.ensures.detached ∙ ap (λ (k : KernelState). key_detached k c.args.key.now) whole ∙ key_detached-drained kernel c.args.key.now
