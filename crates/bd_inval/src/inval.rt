@@ -7,7 +7,8 @@ use circular_buffer::HeapCircularBuffer;
 use std::alloc::Global;
 use std::marker::Model;
 
-/// An Invalidate Request: the right of a key is to be revoked, by a call. The name is that of PCIe Address Translation Services.
+/// An Invalidate Request: the right of a key is to be revoked, by a call. The name is that of PCIe
+/// Address Translation Services.
 #[derive(Clone, Copy, Debug, PartialEq, Eq)]
 pub struct Post {
     pub key: Key,
@@ -19,7 +20,8 @@ pub struct Post {
 #[derive(Clone, Copy, Debug, PartialEq, Eq)]
 pub struct Full;
 
-/// The requests that are posted and not done, at most [`POSTS`]. Contracts see them as a list, the oldest first.
+/// The requests that are posted and not done, at most [`POSTS`]. Contracts see them as a list, the
+/// oldest first.
 #[derive(Debug, Drop)]
 pub struct Inval {
     posted: HeapCircularBuffer<Post>,
@@ -46,7 +48,8 @@ impl Inval {
         Ok(Inval { posted })
     }
 
-    /// Posts a request after the others: Full exactly where [`POSTS`] are posted. Where it is refused the queue is as before.
+    /// Posts a request after the others: Full exactly where [`POSTS`] are posted. Where it is
+    /// refused the queue is as before.
     pub fn post(&mut self, p: Post) -> Result<(), Full>
         ensures full { IsErr result ↔ (length self.old ≡ POSTS) }
         ensures ok { OnOk result (self.new ≡ self.old ++ p ∷ []) }

@@ -1,4 +1,5 @@
-//! The bytes of all blocks of a device: how a range of a block is moved in and out, and a block zeroed.
+//! The bytes of all blocks of a device: how a range of a block is moved in and out, and a block
+//! zeroed.
 #![tactic(auto)]
 
 mod laws;

@@ -24,7 +24,8 @@ impl Model for Plain {
 }
 
 impl Plain {
-    /// A device with these bytes, which are those of at most [`bd_base::BLOCKS`] whole blocks. It takes no memory.
+    /// A device with these bytes, which are those of at most [`bd_base::BLOCKS`] whole blocks. It
+    /// takes no memory.
     pub fn new(bytes: Bytes) -> Plain
         requires { AreBlocks bytes }
         ensures { result ≡ bytes }

@@ -13,9 +13,12 @@ use std::marker::Model;
 /// How many commands of a process may be outstanding.
 pub const DEPTH: usize = 8;
 
-/// The commands that are submitted, those that the engine has in hand, and the completions that are not polled.
+/// The commands that are submitted, those that the engine has in hand, and the completions that are
+/// not polled.
 ///
-/// A command is outstanding from its submission until its completion is polled. At most [`DEPTH`] commands are outstanding, and no two of them have the same piece number. Contracts see the three lists, each in order.
+/// A command is outstanding from its submission until its completion is polled. At most [`DEPTH`]
+/// commands are outstanding, and no two of them have the same piece number. Contracts see the three
+/// lists, each in order.
 #[derive(Debug, Drop)]
 pub struct QueuePair {
     submitted: HeapCircularBuffer<Command>,
@@ -47,7 +50,8 @@ impl QueuePair {
         })
     }
 
-    /// Submits a command, of whose piece number none is outstanding, while fewer than [`DEPTH`] are.
+    /// Submits a command, of whose piece number none is outstanding, while fewer than [`DEPTH`]
+    /// are.
     pub fn submit(&mut self, c: Command)
         requires room { outstanding self.old < DEPTH }
         requires piece { outstanding_of self.old c.piece ≡ 0 }

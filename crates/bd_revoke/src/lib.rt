@@ -1,4 +1,5 @@
-//! How the rights of a list of keys are revoked: each is cleared and posted, and counted off once it is detached.
+//! How the rights of a list of keys are revoked: each is cleared and posted, and counted off once
+//! it is detached.
 #![tactic(auto)]
 
 mod laws;

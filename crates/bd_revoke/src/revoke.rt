@@ -15,11 +15,14 @@ use std::marker::Model;
 
 /// A revocation in progress, by a call that it is for.
 ///
-/// Each key is cleared, then posted, and then waits until it is counted off as detached; the next key is cleared once the one before it is posted. It takes no memory. Contracts see the keys that are to be cleared, the key that is to be posted, those that wait, and the call.
+/// Each key is cleared, then posted, and then waits until it is counted off as detached; the next
+/// key is cleared once the one before it is posted. It takes no memory. Contracts see the keys that
+/// are to be cleared, the key that is to be posted, those that wait, and the call.
 #[derive(Debug, Drop)]
 pub struct Revoke {
     by: At,
-    // In this order: keys that were detached, those that wait, the one that is cleared and not posted, and those to be cleared.
+    // In this order: keys that were detached, those that wait, the one that is cleared and not
+    // posted, and those to be cleared.
     keys: [Key; MOST_KEYS],
     detached: usize,
     posted: usize,
@@ -40,7 +43,8 @@ impl Model for Revoke {
 }
 
 impl Revoke {
-    /// A revocation of these keys, which are different and in order of process, descriptor and part.
+    /// A revocation of these keys, which are different and in order of process, descriptor and
+    /// part.
     pub fn begin(keys: KeyList, by: At) -> Revoke
         requires { IsStrictlySortedBy key_cmp keys }
         ensures { result ≡ beginning keys by }
@@ -64,9 +68,11 @@ impl Revoke {
         }
     }
 
-    /// Takes the next step of a revocation that is not finished. Where a clear is next, its key is On in these tables.
+    /// Takes the next step of a revocation that is not finished. Where a clear is next, its key is
+    /// On in these tables.
     ///
-    /// QueueFull exactly where a post is next and [`POSTS`] requests are posted; Detaching exactly where all keys are posted. Both change nothing.
+    /// QueueFull exactly where a post is next and [`POSTS`] requests are posted; Detaching exactly
+    /// where all keys are posted. Both change nothing.
     pub fn step<T: KernelSide>(&mut self, tables: &mut T, inval: &mut Inval) -> RevokeTurn
         requires open { 0 < left_of self.old }
         requires on { IfSome (key_to_clear self.old) (KeyIs IsOn (T.kernel tables.old)) }

@@ -26,7 +26,7 @@ use Rattle.bd_tables.proofs.Maps.{get-change, other_key}
 use Rattle.bd_tables.proofs.Users.{user-counts}
 use Rattle.bd_tables.specs.Effects.{after_detach, change, none_swept, sweep_state, with_limit}
 use Rattle.bd_tables.specs.Kernel.{IsAttachedIn, IsDrained, IsSweptWhole, ReachesUpTo}
-use Rattle.bd_tables.specs.Laws.{AttachKeeps, ClearKeeps, DetachKeeps, DrainKeeps, DrainedKeysAreLeft, PutKeeps, RaiseKeeps, SweepKeeps, SweptKeysAreInNoLine}
+use Rattle.bd_tables.specs.Laws.{AttachKeeps, ClearKeeps, DetachKeeps, DrainKeeps, DrainedKeysAreLeft, PutKeeps, PutLowersNothing, RaiseKeeps, RaiseLowersNothing, SweepKeeps, SweptKeysAreInNoLine}
 use Rattle.bd_tables.specs.Sound.{Allows, IsKey, IsOfEntry, IsOpen, IsSound, IsUnswept, OnRight, granted_of}
 use Rattle.bd_tables.specs.State.{CellMap, Rights, TableState, block_pair, cell_of, engines_in, entry_in, is_in, lookup, lookup_under, pair_for, pair_under, users, walk_at}
 
@@ -240,22 +240,30 @@ if_some : {X : Type 0} (P : X → Type 0) (v : Option X) (x : X) → v ≡ Some 
 if_some P None x is h = absurd (none-some x is)
 if_some P (Some y) x is h = subst P (same_Some _ _ is) h
 
-pub put_keeps : PutKeeps
-unfolding CellsGrow cells_sound
-put_keeps tables sound file index cell empty =
+put_grows : (cells : CellMap) (file index : ℕ) (cell : Cell) →
+    IfSome (fin.get cells (block_pair file index)) (λ cs. cell_at cs (index % 512) ≡ None) →
+    CellsGrow cells (change cells (block_pair file index) (with_cell (index % 512) cell))
+unfolding CellsGrow
+put_grows cells file index cell empty pair i c is =
     let j : ℕ = index % 512 in
-    cells_sound tables sound _ (λ pair i c is.
-    get-change pair_cmp_total tables.cells (block_pair file index) (with_cell j cell) pair (λ v. IsOfEntry c (entry_in v i))
+    get-change pair_cmp_total cells (block_pair file index) (with_cell j cell) pair (λ v. IsOfEntry c (entry_in v i))
     (λ other. is)
-    (λ cells at same.
-    let here : fin.get tables.cells pair ≡ Some cells = ap (fin.get tables.cells) (same_pair-is pair (block_pair file index) same) ∙ at in
+    (λ its at same.
+    let here : fin.get cells pair ≡ Some its = ap (fin.get cells) (same_pair-is pair (block_pair file index) same) ∙ at in
     let old = subst (λ (v : Option Cells). IsOfEntry c (entry_in v i)) here is in
-    let none = if_some (λ cs. cell_at cs j ≡ None) _ cells at empty in
+    let none = if_some (λ cs. cell_at cs j ≡ None) _ its at empty in
     elim (cases_eq (i % 512) j) [
-      | inl hit ↦ absurd (subst (IsOfEntry c) (ap (cell_at cells) hit ∙ none) old)
-      | inr miss ↦ subst (IsOfEntry c) (sym (get_or-set_other cells j (i % 512) (Some cell) None miss)) old
+      | inl hit ↦ absurd (subst (IsOfEntry c) (ap (cell_at its) hit ∙ none) old)
+      | inr miss ↦ subst (IsOfEntry c) (sym (get_or-set_other its j (i % 512) (Some cell) None miss)) old
     ])
-    (λ none. is))
+    (λ none. is)
+
+pub put_keeps : PutKeeps
+put_keeps tables sound file index cell empty = cells_sound tables sound _ (put_grows tables.cells file index cell empty)
+
+pub put_lowers_nothing : PutLowersNothing
+put_lowers_nothing tables file index cell empty key i reached is =
+    grown tables.cells _ (put_grows tables.cells file index cell empty) key i reached (fin.get tables.rights key) is
 
 raised-entry : (c : Cell) (limit : ℕ) (entry : Option Cell) → ReachesUpTo limit entry → IsOfEntry c entry →
     IsOfEntry c (option_map (λ (cell : Cell). record cell { limit = limit }) entry)
@@ -266,34 +274,42 @@ some_entry : (c : Cell) (entry : Option Cell) → IsOfEntry c entry → (e : Cel
 some_entry c None is = absurd is
 some_entry c (Some e) is = (e, refl)
 
-pub raise_keeps : RaiseKeeps
-unfolding CellsGrow cells_sound
-raise_keeps tables sound file index limit up =
+raise_grows : (cells : CellMap) (file index limit : ℕ) →
+    IfSome (fin.get cells (block_pair file index)) (λ cs. ReachesUpTo limit (cell_at cs (index % 512))) →
+    CellsGrow cells (change cells (block_pair file index) (with_limit (index % 512) limit))
+unfolding CellsGrow
+raise_grows cells file index limit up pair i c is =
     let j : ℕ = index % 512 in
-    cells_sound tables sound _ (λ pair i c is.
-    get-change pair_cmp_total tables.cells (block_pair file index) (with_limit j limit) pair (λ v. IsOfEntry c (entry_in v i))
+    get-change pair_cmp_total cells (block_pair file index) (with_limit j limit) pair (λ v. IsOfEntry c (entry_in v i))
     (λ other. is)
-    (λ cells at same.
-    let here : fin.get tables.cells pair ≡ Some cells = ap (fin.get tables.cells) (same_pair-is pair (block_pair file index) same) ∙ at in
+    (λ its at same.
+    let here : fin.get cells pair ≡ Some its = ap (fin.get cells) (same_pair-is pair (block_pair file index) same) ∙ at in
     let old = subst (λ (v : Option Cells). IsOfEntry c (entry_in v i)) here is in
-    let reaches = if_some (λ cs. ReachesUpTo limit (cell_at cs j)) _ cells at up in
-    let new : Option Cell = option_map (λ (cell : Cell). record cell { limit = limit }) (cell_at cells j) in
+    let reaches = if_some (λ cs. ReachesUpTo limit (cell_at cs j)) _ its at up in
+    let new : Option Cell = option_map (λ (cell : Cell). record cell { limit = limit }) (cell_at its j) in
     elim (cases_eq (i % 512) j) [
       | inl hit ↦
-          let there = subst (IsOfEntry c) (ap (cell_at cells) hit) old in
+          let there = subst (IsOfEntry c) (ap (cell_at its) hit) old in
           let e = some_entry c _ there in
-          let at_j : cell_at (set cells j new) (i % 512) ≡ new = ap (cell_at (set cells j new)) hit
-          ∙ get_or-set_same cells j new None (in_cells cells j e.0 e.1) in
+          let at_j : cell_at (set its j new) (i % 512) ≡ new = ap (cell_at (set its j new)) hit
+          ∙ get_or-set_same its j new None (in_cells its j e.0 e.1) in
           subst (IsOfEntry c) (sym at_j) (raised-entry c limit _ reaches there)
-      | inr miss ↦ subst (IsOfEntry c) (sym (get_or-set_other cells j (i % 512) new None miss)) old
+      | inr miss ↦ subst (IsOfEntry c) (sym (get_or-set_other its j (i % 512) new None miss)) old
     ])
-    (λ none. is))
+    (λ none. is)
+
+pub raise_keeps : RaiseKeeps
+raise_keeps tables sound file index limit up = cells_sound tables sound _ (raise_grows tables.cells file index limit up)
+
+pub raise_lowers_nothing : RaiseLowersNothing
+raise_lowers_nothing tables file index limit up key i reached is =
+    grown tables.cells _ (raise_grows tables.cells file index limit up) key i reached (fin.get tables.rights key) is
 
 -- ---- what a revocation reaches
 
 pub drained_keys_are_left : DrainedKeysAreLeft
-drained_keys_are_left tables sound key drained process request completion is same =
-    let allowed = sound.granted process request (ap granted_of is) in
+drained_keys_are_left tables sound key drained process request is same =
+    let allowed = sound.granted process request is in
     clash (fin.get tables.rights key) drained (subst (λ k. OnRight (Allows request) (fin.get tables.rights k)) same allowed)
   where
     clash : (right : Option Right) → IsAttachedIn IsDrained right → OnRight (Allows request) right → ⊥

@@ -14,3 +14,5 @@ pub mod Told
 pub mod Engine
 pub mod Answers
 pub mod Sweeps
+pub mod TwoKeys
+pub mod Bare

@@ -122,17 +122,32 @@ detached_book rights key None state book = refl
 detached_book rights key (Some right) state book = refl
 
 -- what is left of a key does not depend on its state
-pub key_detached-swept : (kernel : KernelState) (key : Key) → key_detached (swept_whole kernel key) key ≡ key_detached kernel key
-key_detached-swept kernel key =
-    let f = to_states (λ _. Drained all_swept) in
+key_detached-state : (kernel : KernelState) (key : Key) (state : RightState) → key_detached (key_in_state kernel key state) key ≡ key_detached kernel key
+key_detached-state kernel key state =
+    let f = to_states (λ _. state) in
     let rights = remove-change kernel.rights key f in
     let book : after_detach (fin.remove (change kernel.rights key f) key) key (fin.get (change kernel.rights key f) key) kernel.book
     ≡ after_detach (fin.remove kernel.rights key) key (fin.get kernel.rights key) kernel.book =
     ap (λ (r : Rights). after_detach r key (fin.get (change kernel.rights key f) key) kernel.book) rights
     ∙ ap (λ v. after_detach (fin.remove kernel.rights key) key v kernel.book) (same_key-change key_cmp_total kernel.rights key f)
-    ∙ detached_book (fin.remove kernel.rights key) key (fin.get kernel.rights key) (Drained all_swept) kernel.book in
-    ap (λ k. key_detached k key) (swept_whole-is kernel key)
-    ∙ (λ i. record { processes = kernel.processes; rights = rights i; book = book i })
+    ∙ detached_book (fin.remove kernel.rights key) key (fin.get kernel.rights key) state kernel.book in
+    λ i. record { processes = kernel.processes; rights = rights i; book = book i }
+
+pub key_detached-swept : (kernel : KernelState) (key : Key) → key_detached (swept_whole kernel key) key ≡ key_detached kernel key
+key_detached-swept kernel key =
+    ap (λ k. key_detached k key) (swept_whole-is kernel key) ∙ key_detached-state kernel key (Drained all_swept)
+
+-- the same of a key that was cleared before
+pub drained_whole-key : (kernel : KernelState) (key : Key) → KeyIs IsCleared kernel key →
+    KeyIs IsSweptWhole (lines_swept (key_in_state kernel key (Drained none_swept)) LINES key) key
+drained_whole-key kernel key cleared =
+    subst (λ k. KeyIs IsSweptWhole k key) (sym (all_lines kernel key))
+    (subst (IsAttachedIn IsSweptWhole) (sym (same_key-change key_cmp_total kernel.rights key (to_states (λ _. Drained all_swept))))
+    (in_state (fin.get kernel.rights key) IsCleared (Drained all_swept) cleared))
+
+pub key_detached-drained : (kernel : KernelState) (key : Key) →
+    key_detached (lines_swept (key_in_state kernel key (Drained none_swept)) LINES key) key ≡ key_detached kernel key
+key_detached-drained kernel key = ap (λ k. key_detached k key) (all_lines kernel key) ∙ key_detached-state kernel key (Drained all_swept)
 
 cleared_state : (kernel : KernelState) (key : Key) (P Q : RightState → Type 0) (state : RightState) → Q state → KeyIs P kernel key →
     KeyIs Q (key_in_state kernel key state) key

@@ -15,7 +15,7 @@ use Rattle.bd_tables.specs.declared.state.RightState.TheVariants.{On}
 use Rattle.bd_tables.specs.declared.state.Walk.TheVariants.{Entered, Translated}
 use Rattle.bd_tables.specs.Effects.{attach, clear, detach, drain, enter, fill, look, put_entry, raise_limit, read_entry, retire, sweep}
 use Rattle.bd_tables.specs.Kernel.{IsAttachedIn, IsDrained, IsOn, IsSweptWhole, ReachesUpTo}
-use Rattle.bd_tables.specs.Sound.{IsKey, IsOfEntry, IsSound}
+use Rattle.bd_tables.specs.Sound.{IsKey, IsOfEntry, IsSound, granted_of}
 use Rattle.bd_tables.specs.State.{TableState, block_pair, engines_in, found_entering, lookup, walk_at}
 
 -- ---- what an engine is told
@@ -108,14 +108,33 @@ RaiseKeeps =
     (λ cells. ReachesUpTo limit (cell_at cells (index % PART_BLOCKS))) →
     IsSound (raise_limit tables file index limit)
 
+-- ---- what growth leaves
+
+-- a filled entry lowers nothing: each lookup that gave a block still gives it, and reaches as far
+abbrev pub PutLowersNothing : Type 0
+PutLowersNothing =
+    (tables : TableState) (file index : ℕ) (cell : Cell) →
+    IfSome (fin.get tables.cells (block_pair file index)) (λ cells. cell_at cells (index % PART_BLOCKS) ≡ None) →
+    (key : Key) (i : ℕ) (reached : Cell) → IsOfEntry reached (lookup tables key i) →
+    IsOfEntry reached (lookup (put_entry tables file index cell) key i)
+
+-- nor does a limit that is not below the one before
+abbrev pub RaiseLowersNothing : Type 0
+RaiseLowersNothing =
+    (tables : TableState) (file index limit : ℕ) →
+    IfSome (fin.get tables.cells (block_pair file index))
+    (λ cells. ReachesUpTo limit (cell_at cells (index % PART_BLOCKS))) →
+    (key : Key) (i : ℕ) (reached : Cell) → IsOfEntry reached (lookup tables key i) →
+    IsOfEntry reached (lookup (raise_limit tables file index limit) key i)
+
 -- ---- what a revocation reaches
 
--- no engine is granted in a drained key, and none may be told of a block under it
+-- no engine is granted in a drained key, so none holds a translation under it or may come to hold one
 abbrev pub DrainedKeysAreLeft : Type 0
 DrainedKeysAreLeft =
     (tables : TableState) → IsSound tables → (key : Key) → IsAttachedIn IsDrained (fin.get tables.rights key) →
-    (process : ℕ) (request : Request) (completion : Completion) →
-    walk_at tables.walks process ≡ Translated request completion → ¬ (request.key ≡ key)
+    (process : ℕ) (request : Request) →
+    granted_of (walk_at tables.walks process) ≡ Some request → ¬ (request.key ≡ key)
 
 -- after all lines were swept since the drain none names the key
 abbrev pub SweptKeysAreInNoLine : Type 0

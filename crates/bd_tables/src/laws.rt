@@ -1,5 +1,5 @@
 //! What holds of the tables, whatever they are made of. The calls do nothing: their contracts are the laws.
-ghost use Rattle.bd_tables.specs.Laws.{AttachKeeps, ClearKeeps, DetachKeeps, DrainKeeps, DrainedKeysAreLeft, EnterKeeps, FillKeeps, HitsAreLookups, LookKeeps, OnlyOnGrants, PutKeeps, RaiseKeeps, ReadKeeps, RetireKeeps, SweepKeeps, SweptKeysAreInNoLine};
+ghost use Rattle.bd_tables.specs.Laws.{AttachKeeps, ClearKeeps, DetachKeeps, DrainKeeps, DrainedKeysAreLeft, EnterKeeps, FillKeeps, HitsAreLookups, LookKeeps, OnlyOnGrants, PutKeeps, PutLowersNothing, RaiseKeeps, RaiseLowersNothing, ReadKeeps, RetireKeeps, SweepKeeps, SweptKeysAreInNoLine};
 
 /// Engines are granted and told only what rights and cells say.
 pub fn walks_answer_the_lookup()
@@ -16,8 +16,7 @@ pub fn engines_keep_the_tables_sound()
     ensures retire { RetireKeeps }
 {}
 
-/// The tables stay sound through each change by the kernel. In particular a filled entry or a raised limit lowers
-/// nothing that an engine or a line holds.
+/// The tables stay sound through each change by the kernel.
 pub fn the_kernel_keeps_the_tables_sound()
     ensures attach { AttachKeeps }
     ensures clear { ClearKeeps }
@@ -26,6 +25,12 @@ pub fn the_kernel_keeps_the_tables_sound()
     ensures detach { DetachKeeps }
     ensures put { PutKeeps }
     ensures raise { RaiseKeeps }
+{}
+
+/// A filled entry or a raised limit lowers nothing: what a lookup gave it still gives, and as far.
+pub fn growth_lowers_nothing()
+    ensures put { PutLowersNothing }
+    ensures raise { RaiseLowersNothing }
 {}
 
 /// Nothing of a key is left in engines after its drain, and nothing in the cache after its sweeps.

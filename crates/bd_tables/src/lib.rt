@@ -11,8 +11,8 @@ pub use bd_base::{Cell, Key};
 pub use bd_file_table::Full;
 pub use bd_lines::{LINES, Line};
 pub use laws::{
-    engines_keep_the_tables_sound, revocation_leaves_nothing, the_kernel_keeps_the_tables_sound,
-    walks_answer_the_lookup,
+    engines_keep_the_tables_sound, growth_lowers_nothing, revocation_leaves_nothing,
+    the_kernel_keeps_the_tables_sound, walks_answer_the_lookup,
 };
 pub use plain::{PlainPass, PlainTables};
 pub use request::{Completion, Drained, Looked, Request, Walked};

@@ -1,18 +1,20 @@
 //! Walks and revocations over tables for one thread, by functions that know only the traits.
-ghost use Rattle.std.specs.Prelude.{◌≡◌, ◌≢◌, ℕ, ◌/◌, ◌<◌, ◌≤◌, None, Some, length, All, IfOk};
+ghost use Rattle.std.specs.Prelude.{◌≡◌, ◌≢◌, ℕ, ◌/◌, ◌<◌, ◌≤◌, None, Some, length, All, IfOk, []};
 ghost use Rattle.std.specs.FinMap as fin;
 ghost use Rattle.bd_base.specs.declared.limits.TheConstants.{PART_BLOCKS, PROCESSES};
 ghost use Rattle.bd_lines.specs.declared.lines.TheConstants.{LINES};
+ghost use Rattle.bd_base.specs.Keys.{Pair};
+ghost use Rattle.bd_file_table.specs.Fragments.{Fragment, padded};
 ghost use Rattle.bd_tables.specs.declared.state.Walk.TheVariants.{Idle};
 ghost use Rattle.bd_tables.specs.Answers.{AllStay, GivesBack, IsAnswered, IsEntered};
-ghost use Rattle.bd_tables.specs.Kernel.{HasLimit, IsDrained, IsLimit, IsOn, KeyIs, key_detached};
+ghost use Rattle.bd_tables.specs.Kernel.{HasLimit, IsDrained, IsEmptyEntry, IsEntryUpTo, IsLimit, IsOn, KeyIs, key_detached};
 ghost use Rattle.bd_tables.specs.Passes.{IsLent};
 ghost use Rattle.bd_tables.specs.Plain.{kernel_of};
 ghost use Rattle.bd_tables.specs.Sweeps.{lines_swept};
 
 use crate::{
-    Cell, Completion, Drained, EngineSide, KernelSide, Key, LINES, Looked, PlainPass, PlainTables,
-    Request, Walked,
+    Cell, Completion, Drained, EngineSide, Full, KernelSide, Key, LINES, Looked, PlainPass,
+    PlainTables, Request, Walked,
 };
 use bd_base::{BlockNo, Fd, FileId, Found, Part, Pid, Steps};
 use std::alloc::Global;
@@ -186,16 +188,26 @@ fn cell(block: u64, limit: u16) -> Result<Cell, Fail>
     })
 }
 
+/// The file that tests have rights to.
+fn file() -> Result<FileId, Fail>
+    ensures { IfOk result (λ file. file ≡ 255) }
+{
+    Ok(FileId::new(255).ok_or("a file")?)
+}
+
 /// Tables with one right, to two blocks of a file, and the pass of its process.
 fn start(alloc: Global, key: &Key) -> Result<(PlainTables, PlainPass), Fail>
-    requires { key.now.process < PROCESSES }
+    requires process { key.now.process < PROCESSES }
+    requires part { key.now.part ≡ 0 }
     ensures lent { IfOk result (λ both. IsLent both.0 both.1) }
     ensures idle { IfOk result (λ both. both.1.walk ≡ Idle) }
     ensures own { IfOk result (λ both. both.1.process ≡ key.now.process) }
     ensures on { IfOk result (λ both. KeyIs IsOn (kernel_of both.0) key.now) }
+    ensures empty { IfOk result (λ both. IsEmptyEntry both.0.book 255 2) }
+    ensures filled { IfOk result (λ both. IsEntryUpTo both.0.book 255 1 200) }
 {
     let mut tables = PlainTables::new(alloc, 16)?;
-    let file = FileId::new(255).ok_or("a file")?;
+    let file = file()?;
     let cells = [cell(9, 4096)?, cell(7, 100)?];
     tables.attach(*key, file, false, &cells)?;
     let pass = tables.lend(key.process);
@@ -242,6 +254,9 @@ fn some_walks<L: Ledger>(rt: &impl Abort, alloc: Global, blank: Blank) -> Result
     assert_eq!(rt; outcome, refused(Found::NoEntry));
     let (pass, outcome) = visit(&mut tables, pass, &ours, (0, 1, true), &mut steps);
     assert_eq!(rt; outcome, refused(Found::NoRight));
+    let other = key(15, 6)?;
+    let (pass, outcome) = visit(&mut tables, pass, &other, (0, 1, true), &mut steps);
+    assert_eq!(rt; outcome, refused(Found::NoDirectory));
     tables.take_back(pass);
     Ok(())
 }
@@ -262,5 +277,234 @@ fn a_right_is_revoked(rt: HostRuntime) -> Result<(), Fail> {
     assert_eq!(rt; drained, Drained::Yes);
     assert!(rt; !tables.attached(key(0, 3)?));
     assert_eq!(rt; tables.in_use(), 0);
+    Ok(())
+}
+
+/// Reads the entry, and fills the line where there is one. The kernel side stays.
+fn read_through<L: Ledger>(
+    tables: &mut PlainTables,
+    pass: PlainPass,
+    steps: &mut Steps<L>,
+) -> (PlainPass, Walked)
+    requires is_of { IsLent tables.old pass }
+    requires entered { IsEntered pass.walk }
+    ensures is_of { IsLent tables.new result.0 }
+    ensures answered { IsAnswered result.0.walk }
+    ensures own { result.0.process ≡ pass.process }
+    ensures kernel { kernel_of tables.new ≡ kernel_of tables.old }
+{
+    let (pass, walked) = tables.read_entry(pass, steps);
+    match walked {
+        Walked::Granted => (tables.fill(pass, steps), Walked::Granted),
+        Walked::Missed(found) => (pass, Walked::Missed(found)),
+    }
+}
+
+/// A walk that does not look into the cache, from the enter to its answer. The kernel side stays.
+fn go_in<L: Ledger>(
+    tables: &mut PlainTables,
+    pass: PlainPass,
+    request: Request,
+    steps: &mut Steps<L>,
+) -> (PlainPass, Walked)
+    requires is_of { IsLent tables.old pass }
+    requires idle { pass.walk ≡ Idle }
+    requires own { pass.process ≡ request.key.process }
+    requires part { request.key.part ≡ request.index / PART_BLOCKS }
+    requires hi { IsLimit request.hi }
+    ensures is_of { IsLent tables.new result.0 }
+    ensures answered { IsAnswered result.0.walk }
+    ensures own { result.0.process ≡ pass.process }
+    ensures kernel { kernel_of tables.new ≡ kernel_of tables.old }
+{
+    let (pass, walked) = tables.enter(pass, request, steps);
+    match walked {
+        Walked::Granted => read_through(tables, pass, steps),
+        Walked::Missed(found) => (pass, Walked::Missed(found)),
+    }
+}
+
+/// A whole walk that does not look into the cache. The kernel side stays.
+fn peek<L: Ledger>(
+    tables: &mut PlainTables,
+    pass: PlainPass,
+    request: Request,
+    steps: &mut Steps<L>,
+) -> (PlainPass, Walked)
+    requires is_of { IsLent tables.old pass }
+    requires idle { pass.walk ≡ Idle }
+    requires own { pass.process ≡ request.key.process }
+    requires part { request.key.part ≡ request.index / PART_BLOCKS }
+    requires hi { IsLimit request.hi }
+    ensures is_of { IsLent tables.new result.0 }
+    ensures idle { result.0.walk ≡ Idle }
+    ensures own { result.0.process ≡ pass.process }
+    ensures kernel { kernel_of tables.new ≡ kernel_of tables.old }
+{
+    let (pass, walked) = go_in(tables, pass, request, steps);
+    (tables.retire(pass, steps), walked)
+}
+
+/// Clears a key that an engine is in, and asks whether it is drained, before and after the engine leaves it.
+fn drain_around<L: Ledger>(
+    tables: &mut PlainTables,
+    pass: PlainPass,
+    key: &Key,
+    steps: &mut Steps<L>,
+) -> (Drained, Drained)
+    requires is_of { IsLent tables.old pass }
+    requires answered { IsAnswered pass.walk }
+    requires on { KeyIs IsOn (kernel_of tables.old) key.now }
+{
+    tables.clear(*key);
+    let before = tables.drained(*key);
+    let pass = tables.retire(pass, steps);
+    tables.take_back(pass);
+    match before {
+        Drained::Yes => (Drained::Yes, Drained::Yes),
+        Drained::NotYet(count) => (Drained::NotYet(count), tables.drained(*key)),
+    }
+}
+
+fn some_drains<L: Ledger>(rt: &impl Abort, alloc: Global, blank: Blank) -> Result<(), Fail>
+    requires name { blank.name ≡ L.name }
+    requires parts { blank.parts ≡ L.parts }
+    requires some { 0 < blank.parts }
+{
+    let mut steps = Steps::<L>::open(blank);
+    let ours = key(3, 2)?;
+    let (mut tables, pass) = start(alloc, &ours)?;
+    let request = Request {
+        key: key(3, 2)?,
+        index: 1,
+        hi: 100,
+        write: false,
+    };
+    let (pass, walked) = go_in(&mut tables, pass, request, &mut steps);
+    assert_eq!(rt; walked, Walked::Granted);
+    let (before, after) = drain_around(&mut tables, pass, &ours, &mut steps);
+    assert_eq!(rt; before, Drained::NotYet(1));
+    assert_eq!(rt; after, Drained::Yes);
+    Ok(())
+}
+
+#[test]
+fn a_drain_waits_for_the_engine_inside(rt: HostRuntime) -> Result<(), Fail> {
+    some_drains::<Brand>(&rt, rt.alloc(), Blank::new(1))
+}
+
+/// Fills the entry of block 2 of file 255, and raises the limit of that of block 1.
+fn grow(tables: &mut PlainTables) -> Result<(), Fail>
+    requires empty { IsEmptyEntry tables.old.book 255 2 }
+    requires filled { IsEntryUpTo tables.old.book 255 1 200 }
+    ensures passes { AllStay IsLent tables.old tables.new }
+{
+    let file = file()?;
+    tables.put_entry(file, 2, cell(5, 50)?);
+    tables.raise_limit(file, 1, 200);
+    Ok(())
+}
+
+fn some_growth<L: Ledger>(rt: &impl Abort, alloc: Global, blank: Blank) -> Result<(), Fail>
+    requires name { blank.name ≡ L.name }
+    requires parts { blank.parts ≡ L.parts }
+    requires some { 0 < blank.parts }
+{
+    let mut steps = Steps::<L>::open(blank);
+    let ours = key(2, 1)?;
+    let (mut tables, pass) = start(alloc, &ours)?;
+    let request = Request {
+        key: key(2, 1)?,
+        index: 1,
+        hi: 100,
+        write: false,
+    };
+    let (pass, walked) = peek(&mut tables, pass, request, &mut steps);
+    assert_eq!(rt; walked, Walked::Granted);
+    grow(&mut tables)?;
+    let (pass, outcome) = visit(&mut tables, pass, &ours, (1, 100, false), &mut steps);
+    assert_eq!(rt; outcome, told(7, 100, true)?);
+    let (pass, outcome) = visit(&mut tables, pass, &ours, (1, 200, false), &mut steps);
+    assert_eq!(rt; outcome, told(7, 200, false)?);
+    let (pass, outcome) = visit(&mut tables, pass, &ours, (2, 50, false), &mut steps);
+    assert_eq!(rt; outcome, told(5, 50, false)?);
+    tables.take_back(pass);
+    Ok(())
+}
+
+#[test]
+fn the_next_walk_sees_what_was_filled_and_raised(rt: HostRuntime) -> Result<(), Fail> {
+    some_growth::<Brand>(&rt, rt.alloc(), Blank::new(1))
+}
+
+/// Tables with a right of each of two processes, to part 0 of one file.
+fn two_rights(alloc: Global, first: &Key, second: &Key) -> Result<PlainTables, Fail>
+    requires differ { first.now.process ≢ second.now.process }
+    ensures first { IfOk result (λ tables. KeyIs IsOn (kernel_of tables) first.now) }
+    ensures second { IfOk result (λ tables. KeyIs IsOn (kernel_of tables) second.now) }
+{
+    let mut tables = PlainTables::new(alloc, 16)?;
+    let file = file()?;
+    tables.attach(*first, file, false, &[])?;
+    tables.attach(*second, file, true, &[])?;
+    Ok(tables)
+}
+
+/// Revokes two rights, and tells how many fragments are in use after each.
+fn revoke_both<T: KernelSide>(tables: &mut T, first: &Key, second: &Key) -> Option<(u32, u32)>
+    requires differ { first.now.process ≢ second.now.process }
+    requires first { KeyIs IsOn (T.kernel tables.old) first.now }
+    requires second { KeyIs IsOn (T.kernel tables.old) second.now }
+{
+    match revoke(tables, first) {
+        Drained::NotYet(_) => None,
+        Drained::Yes => {
+            let between = tables.in_use();
+            let _drained = revoke(tables, second);
+            Some((between, tables.in_use()))
+        }
+    }
+}
+
+#[test]
+fn a_shared_fragment_is_dropped_with_its_last_key(rt: HostRuntime) -> Result<(), Fail> {
+    let (first, second) = (key(0, 3)?, key(1, 3)?);
+    let mut tables = two_rights(rt.alloc(), &first, &second)?;
+    assert_eq!(rt; tables.in_use(), 1);
+    let in_use = revoke_both(&mut tables, &first, &second);
+    assert_eq!(rt; in_use, Some((1, 0)));
+    Ok(())
+}
+
+/// Attaches a right to part 0 of a file that has no filled entry, to a key that is not attached.
+fn attach_bare(
+    rt: &impl Abort,
+    tables: &mut PlainTables,
+    number: u64,
+    file: u64,
+) -> Result<Result<(), Full>, Fail>
+    requires bare { (pair : Pair) (its : Fragment)
+        → fin.get tables.old.book pair ≡ Some its → its.cells ≡ padded [] }
+    ensures bare { (pair : Pair) (its : Fragment)
+        → fin.get tables.new.book pair ≡ Some its → its.cells ≡ padded [] }
+{
+    let key = key(number / 8, number % 8)?;
+    let key = &key;
+    assert!(rt; !tables.attached(*key));
+    let file = FileId::new(file).ok_or("a file")?;
+    Ok(tables.attach(*key, file, false, &[]))
+}
+
+#[test]
+fn a_sixty_fifth_pair_gets_no_fragment(rt: HostRuntime) -> Result<(), Fail> {
+    let mut tables = PlainTables::new(rt.alloc(), 16)?;
+    for number in 0..64 {
+        assert_eq!(rt; attach_bare(&rt, &mut tables, number, number)?, Ok(()));
+    }
+    assert_eq!(rt; tables.in_use(), 64);
+    assert_eq!(rt; attach_bare(&rt, &mut tables, 64, 64)?, Err(Full));
+    // A file that has its fragment shares it.
+    assert_eq!(rt; attach_bare(&rt, &mut tables, 64, 5)?, Ok(()));
+    assert_eq!(rt; tables.in_use(), 64);
     Ok(())
 }

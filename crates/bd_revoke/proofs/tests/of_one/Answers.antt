@@ -7,6 +7,6 @@ use Rattle.bd_revoke.proofs.tests.of_one.Goals as goal
 pub begin-requires : goal.begin-requires
 unfolding IsStrictlySortedBy
 begin-requires c =
-    let one : _ ≡ c.args.key ∷ [] =
-    c.push.ensures ∙ ap (λ (keys : List Key). keys ++ c.args.key ∷ []) c.new-keys.ensures in
+    let one : _ ≡ c.args.key.now ∷ [] =
+    c.push.ensures ∙ ap (λ (keys : List Key). keys ++ c.args.key.now ∷ []) c.new-keys.ensures in
     subst (IsStrictlySortedBy key_cmp) (sym one) (tt, tt)
