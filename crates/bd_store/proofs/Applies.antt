@@ -10,12 +10,12 @@ use Rattle.bd_entry.specs.Rules.{EntryRule, FitsStore, entry_rule_number, place_
 use Rattle.bd_entry.specs.Store.{Store}
 use Rattle.bd_store.specs.Kept.{AtPlace, BreaksAt, IsBroken, Kept, Represents}
 use Rattle.bd_store.specs.Kinds.{IsPieceWhereWrote}
-use Rattle.bd_store.proofs.ReadyChanges.{of_its_call}
+use Rattle.bd_entry.proofs.SoundVolumes.{is_of_call}
 
 -- an access that wrote is to a piece of its call
 pub next-piece : (s : Store) (call : Call) (e : Entry) → IsNextEntry s call e → IsPieceWhereWrote call e
 next-piece s call (Access at piece fd file index block range true way bytes) next =
-    (piece, (of_its_call s call (Access at piece fd file index block range true way bytes) next).fields.1.piece)
+    (piece, (is_of_call s call (Access at piece fd file index block range true way bytes) next).fields.1.piece)
 next-piece s call e next = tt
 
 -- what holds at the place of the next entry, whatever the entries are, holds in the store

@@ -1,7 +1,9 @@
 -- The entries of running calls, followed through a journal.
-use Rattle.std.proofs.Common.{◌≡◌, ℕ, cond, List, [], ◌∷◌, ◌++◌, Option, Some, map, refl, sym, ap, ◌∙◌, subst}
-use Rattle.std.specs.Prelude.{slice_index_or, slice_set}
+use Rattle.std.proofs.Common.{◌≡◌, ℕ, ◌+◌, ◌<◌, ◌≤◌, cond, List, [], ◌∷◌, ◌++◌, Option, Some, length, map, take, refl, sym, ap, ◌∙◌, subst, arith, inl, inr}
+use Rattle.std.specs.Prelude.{slice_get, slice_index_or, slice_set}
 use Rattle.std.specs.Option.{option_map_or}
+use Rattle.std.proofs.lemmas.List.{take_more}
+use Rattle.std.proofs.lemmas.Option.{get_or_from_slice_get, slice_get_cases, slice_get_within}
 use Rattle.bd_base.specs.declared.script.Call.{Call}
 use Rattle.bd_base.specs.declared.script.Process.{Process}
 use Rattle.bd_base.specs.declared.script.Script.{Script}
@@ -18,6 +20,19 @@ use Rattle.bd_entry.proofs.Histories.{history-push}
 use Rattle.bd_store.specs.Kept.{Kept, Represents, store_of}
 use Rattle.bd_store.specs.Verdicts.{AreFinished, IsTaken}
 use Rattle.bd_entry.proofs.CallWork.{effect_of-work}
+
+-- there is an element within a list
+pub some_at : {X : Type 0} (xs : List X) (n : ℕ) → n < length xs → (x : X) × (slice_get xs n ≡ Some x)
+some_at {X} xs n within =
+    elim (slice_get_cases xs n).1 [
+      | inl there ↦ (there.0, there.2)
+      | inr past ↦ let past_end : length xs ≤ n = past.0 in absurd (omega arith)
+    ]
+
+-- one more of a list is taken
+pub take-push : {X : Type 0} (xs : List X) (n : ℕ) (x : X) → slice_get xs n ≡ Some x → take (n + 1) xs ≡ take n xs ++ x ∷ []
+take-push {X} xs n x is =
+    take_more xs n x (slice_get_within xs n x is) ∙ ap (λ (y : X). take n xs ++ y ∷ []) (get_or_from_slice_get xs n x x is)
 
 -- no call has entries
 abbrev pub start_work : Script → List (List Entry)
@@ -92,3 +107,15 @@ followed-push v script before e k next finished more followed taken counts =
       kept = subst (Represents next) same taken.after;
       counts = counts;
     }
+
+-- after one more of a list of entries
+pub followed_on : (v : Volume) (script : Script) (entries : List Entry) (number : ℕ) (k next : Kept) (finished more : List ℕ) →
+    number < length entries → IsFollowed v script (take number entries) k finished →
+    ((e : Entry) → slice_get entries number ≡ Some e → IsTaken script (take number entries) (led_to script (take number entries) k) e next) →
+    AreFinished script (take (number + 1) entries) more → IsFollowed v script (take (number + 1) entries) next more
+followed_on v script entries number k next finished more within followed taken counts =
+    let it = some_at entries number within in
+    let longer = take-push entries number it.0 it.1 in
+    subst (λ (journal : List Entry). IsFollowed v script journal next more) (sym longer)
+    (followed-push v script (take number entries) it.0 k next finished more followed (taken it.0 it.1)
+    (subst (λ (journal : List Entry). AreFinished script journal more) longer counts))

@@ -21,3 +21,4 @@ pub mod CallEnds
 pub mod KeptSteps
 pub mod Starts
 pub mod Applies
+pub mod TakenEntries

@@ -26,28 +26,28 @@ use Rattle.bd_store.proofs.JournalWork.{IsFollowed, led_to}
 -- ---- lists in two parts
 
 -- of two ways to part a list, the longer front begins with the shorter one and its next element
-split_less : {X : Type 0} (a : List X) (x : X) (as : List X) (b : List X) (y : X) (bs : List X) → a ++ x ∷ as ≡ b ++ y ∷ bs → length a < length b →
+split_less : {X : Type 0} (a : List X) (x : X) (xs : List X) (b : List X) (y : X) (ys : List X) → a ++ x ∷ xs ≡ b ++ y ∷ ys → length a < length b →
     (middle : List X) × (b ≡ a ++ x ∷ middle)
-split_less a x as [] y bs same less = absurd (omega arith)
-split_less [] x as (z ∷ b) y bs same less =
+split_less a x xs [] y ys same less = absurd (omega arith)
+split_less [] x xs (z ∷ b) y ys same less =
     let head : x ≡ z = cc in
     (b, ap (λ h. h ∷ b) (sym head))
-split_less (w ∷ a) x as (z ∷ b) y bs same less =
+split_less (w ∷ a) x xs (z ∷ b) y ys same less =
     let head : w ≡ z = cc in
-    let tail : a ++ x ∷ as ≡ b ++ y ∷ bs = cc in
-    let rest = split_less a x as b y bs tail (omega arith) in
+    let tail : a ++ x ∷ xs ≡ b ++ y ∷ ys = cc in
+    let rest = split_less a x xs b y ys tail (omega arith) in
     (rest.0, ap (λ h. h ∷ b) (sym head) ∙ ap (λ t. w ∷ t) rest.1)
 
 -- two fronts of one length are one, and so are the elements after them
-split_same : {X : Type 0} (a : List X) (x : X) (as : List X) (b : List X) (y : X) (bs : List X) → a ++ x ∷ as ≡ b ++ y ∷ bs → length a ≡ length b →
+split_same : {X : Type 0} (a : List X) (x : X) (xs : List X) (b : List X) (y : X) (ys : List X) → a ++ x ∷ xs ≡ b ++ y ∷ ys → length a ≡ length b →
     (a ≡ b) × (x ≡ y)
-split_same [] x as [] y bs same equal = (refl, cc)
-split_same [] x as (z ∷ b) y bs same equal = absurd (omega arith)
-split_same (w ∷ a) x as [] y bs same equal = absurd (omega arith)
-split_same (w ∷ a) x as (z ∷ b) y bs same equal =
+split_same [] x xs [] y ys same equal = (refl, cc)
+split_same [] x xs (z ∷ b) y ys same equal = absurd (omega arith)
+split_same (w ∷ a) x xs [] y ys same equal = absurd (omega arith)
+split_same (w ∷ a) x xs (z ∷ b) y ys same equal =
     let head : w ≡ z = cc in
-    let tail : a ++ x ∷ as ≡ b ++ y ∷ bs = cc in
-    let rest = split_same a x as b y bs tail (omega arith) in
+    let tail : a ++ x ∷ xs ≡ b ++ y ∷ ys = cc in
+    let rest = split_same a x xs b y ys tail (omega arith) in
     (ap (λ h. h ∷ a) head ∙ ap (λ t. z ∷ t) rest.0, rest.1)
 
 -- a list is parted at one of its elements

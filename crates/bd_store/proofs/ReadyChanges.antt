@@ -37,16 +37,11 @@ use Rattle.bd_entry.proofs.DescriptorSteps.{lowest_fd-free}
 use Rattle.bd_entry.proofs.Descriptors.{attaching, sound_all}
 use Rattle.bd_entry.proofs.RangesOfPieces.{piece_of_call-is}
 use Rattle.bd_entry.proofs.Slots.{some_of}
-use Rattle.bd_entry.proofs.SoundVolumes.{grows_to}
+use Rattle.bd_entry.proofs.SoundVolumes.{first_of_create, grows_to, is_of_call}
 use Rattle.bd_store.specs.Changes.{has_right}
 use Rattle.bd_store.specs.Kept.{Kept, Represents, bare, store_of}
 use Rattle.bd_store.specs.Marks.{HasPieceOf}
 use Rattle.bd_store.specs.Steps.{CanChange, CanGrow, IsReady, kept_as}
-
--- the next entry is one of its call
-pub of_its_call : (s : Store) (call : Call) (e : Entry) → IsNextEntry s call e → IsOfCall (place_in s call (at_of e)) e
-of_its_call s call e next =
-    (AreOfCall-parts (record { call = call; at = at_of e; before = [] }) (work_of s (at_of e).process) (e ∷ []) next.of_call).1.0
 
 -- ---- the piece that is noted
 
@@ -58,40 +53,25 @@ some_piece call number found is_call some within = let it = some_of found some i
 pub has_piece : (s : Store) (call : Call) (e : Entry) → IsCall call → IsReady s call e → HasPieceOf e
 has_piece s call (Access at piece fd file index block range wrote way bytes) is_call ready =
     (piece_of_call-is call piece _ is_call
-    (of_its_call s call (Access at piece fd file index block range wrote way bytes) ready.next).fields.1.piece).number_is
+    (is_of_call s call (Access at piece fd file index block range wrote way bytes) ready.next).fields.1.piece).number_is
 has_piece s call (Missed at piece found) is_call ready =
-    some_piece call piece _ is_call (of_its_call s call (Missed at piece found) ready.next).fields
+    some_piece call piece _ is_call (is_of_call s call (Missed at piece found) ready.next).fields
     (λ of is. (piece_of_call-is call piece of is_call is).number_is)
 has_piece s call (Refused at (Some piece) reason) is_call ready =
-    some_piece call piece _ is_call (of_its_call s call (Refused at (Some piece) reason) ready.next).fields
+    some_piece call piece _ is_call (is_of_call s call (Refused at (Some piece) reason) ready.next).fields
     (λ of is. (piece_of_call-is call piece of is_call is).number_is)
 has_piece s call e is_call ready = tt
 
 -- ---- a file that is made
 
--- each entry of a call that makes a file ends it
-making_ends : (name : List ℕ) (perms : ℕ) (e : Entry) → is_made_by (Create name perms) e ≡ true → is_end_of (Create name perms) e ≡ true
-making_ends name perms (Created at file entry_name entry_perms) made = refl
-making_ends name perms (Refused at None reason) made = refl
-making_ends name perms other made = absurd (false≢true made)
-
--- so nothing stands before it
-making_is_first : (name : List ℕ) (perms : ℕ) (at : At) (before : List Entry) (e : Entry) →
-    AreOfCall (record { call = Create name perms; at = at; before = [] }) (before ++ e ∷ []) →
-    is_ended_by (Create name perms) before ≡ false → before ≡ []
-making_is_first name perms at [] e all unfinished = refl
-making_is_first name perms at (first ∷ more) e all unfinished =
-    absurd (both_ways (is_ended_by (Create name perms) (first ∷ more)) unfinished
-    (or_left (is_end_of (Create name perms) first) _ (making_ends name perms first all.0.kind)))
-
 can_make : (s : Store) (call : Call) (at : At) (file : ℕ) (name : List ℕ) (perms : ℕ) → IsReady s call (Created at file name perms) →
     create_refusal name s.files ≡ None
 can_make s (Create asked asked_perms) at file name perms ready =
-    let of_call = of_its_call s (Create asked asked_perms) (Created at file name perms) ready.next in
+    let of_call = is_of_call s (Create asked asked_perms) (Created at file name perms) ready.next in
     let first : work_of s at.process ≡ [] =
-    making_is_first asked asked_perms at (work_of s at.process) (Created at file name perms) ready.next.of_call ready.next.unfinished in
+    first_of_create asked asked_perms at (work_of s at.process) (Created at file name perms) ready.next.of_call ready.next.unfinished in
     subst (λ (n : List ℕ). create_refusal n s.files ≡ None) (sym of_call.fields.0) (ready.keeps NotRefused first)
-can_make s call at file name perms ready = absurd (of_its_call s call (Created at file name perms) ready.next).fields
+can_make s call at file name perms ready = absurd (is_of_call s call (Created at file name perms) ready.next).fields
 
 -- ---- bytes that are written
 
@@ -110,7 +90,7 @@ can_write s call at piece fd file index block range way bytes valid is_call read
     by None none =
         absurd (none-some block (sym (ap (λ (o : Option Inode). slice_get (blocks_of_slot o) index) none) ∙ ready.keeps RightBlock))
     by (Some f) there =
-        let of_call = of_its_call s call e ready.next in
+        let of_call = is_of_call s call e ready.next in
         let the_piece : Piece = record { index = index; range = range } in
         let at_index : slice_get f.blocks index ≡ Some block =
         sym (ap (λ (o : Option Inode). slice_get (blocks_of_slot o) index) there) ∙ ready.keeps RightBlock in

@@ -3,6 +3,7 @@ use Rattle.std.proofs.Common.{◌≡◌, ℕ, ◌<◌, ◌∙◌, List, [], ◌�
 use Rattle.std.specs.Prelude.{All}
 use Rattle.std.proofs.lemmas.Bool.{cases_order}
 use Rattle.std.proofs.lemmas.List.{get_or-replicate, get_or_past, length-replicate}
+use Rattle.std.proofs.lemmas.List.Elements.{All-map}
 use Rattle.bd_base.specs.declared.limits.TheConstants.{DESCRIPTORS, USERS}
 use Rattle.bd_base.specs.declared.script.Process.{Process}
 use Rattle.bd_base.specs.declared.script.Script.{Script}
@@ -54,5 +55,4 @@ start_of-users v script =
 
 -- the users of processes within the limits are within them
 pub users_within : (processes : List Process) → All IsProcess processes → All (λ uid. uid < USERS) (uids_of processes)
-users_within [] all = tt
-users_within (p ∷ processes) all = (all.0.uid, users_within processes all.1)
+users_within processes all = All-map (λ uid. uid < USERS) (λ (p : Process). p.uid) processes (λ k d within. (all k d within).uid)
