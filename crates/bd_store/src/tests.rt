@@ -20,7 +20,7 @@ fn empty_volume(alloc: Global) -> Result<Volume, OutOfMemory>
     ensures { IfOk result IsSoundVolume }
 {
     let mut inodes: InodeList = List::new(alloc);
-    for _id in 0..16 {
+    for _id in 0..16usize {
         inodes.push(None)?;
     }
     let bytes = vec![in alloc; 0u8; 81_920]?;

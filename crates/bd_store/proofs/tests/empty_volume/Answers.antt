@@ -1,4 +1,4 @@
-use Rattle.std.proofs.Common.{◌≡◌, ℕ, List, Option, None, Some, replicate, refl, sym, ◌∙◌, arith}
+use Rattle.std.proofs.Common.{◌≡◌, ℕ, ◌<◌, List, Option, None, Some, replicate, refl, sym, ap, subst, ◌∙◌, arith}
 use Rattle.std.proofs.lemmas.List.{length-replicate, take-replicate}
 use Rattle.std.proofs.lemmas.List.Elements.{All-replicate}
 use Rattle.std.proofs.lemmas.Option.{none-some}
@@ -27,10 +27,20 @@ empty_is_sound size same = record {
     perms = λ id f is. none_there 16 id f is;
   };
   owners = λ id f is. none_there 16 id f is;
-  are_bytes = All-replicate _ size 0 (omega arith);
+  are_bytes = All-replicate (λ byte. byte < 256) size 0 (omega arith);
   all_bytes = length-replicate size 0 ∙ same;
   metadata = take-replicate 12288 size 0 (omega arith);
+  tails = λ id f is. none_there 16 id f is;
 }
 
+of_zeros : (size count : ℕ) (inodes : List (Option Inode)) (bytes : List ℕ) → size ≡ 81920 → count ≡ 16 → inodes ≡ no_files count → bytes ≡ replicate size 0 →
+    IsSoundVolume (record { total = 20; inodes = inodes; bytes = bytes })
+of_zeros size count inodes bytes same all none zeros =
+    let files : no_files 16 ≡ inodes = ap no_files (sym all) ∙ sym none in
+    subst (λ (b : List ℕ). IsSoundVolume (record { total = 20; inodes = inodes; bytes = b })) (sym zeros)
+    (subst (λ (files : List (Option Inode)). IsSoundVolume (record { total = 20; inodes = files; bytes = replicate size 0 })) files (empty_is_sound size same))
+
 pub returns : goal.returns
-returns c = ?
+returns c =
+    of_zeros 81920 c.loop-id._id c.loop-id.inodes c.from_vec.result refl (omega arith) c.loop-id.invariant
+    (c.from_vec.ensures ∙ c.in_ok-bytes.ensures.items_if_clones_equal (λ y same. same))
