@@ -27,6 +27,10 @@ abbrev pub kept_as : Kept → Store → Kept
 kept_as k s =
     record { total = s.total; uids = s.uids; files = s.files; bytes = s.bytes; opens = s.opens; marks = k.marks }
 
+-- what is kept after this change of its store
+abbrev pub kept_after : Kept → (Store → Store) → Kept
+kept_after k change = kept_as k (change (bare k))
+
 -- what is kept after one more entry was noted
 abbrev pub with_noted : Kept → Entry → Kept
 with_noted k e =

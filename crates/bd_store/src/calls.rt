@@ -41,7 +41,8 @@ fn fd_of_address(vba: Vba) -> u8
 
 /// The descriptor of a call, where it opened this one.
 pub(crate) fn fd_of_call(call: &Call, opened: Option<Fd>) -> Option<u8>
-    ensures { (entries : List Entry) → opened ≡ opened_fd entries → result ≡ fd_of_call call.now entries }
+    ensures { (entries : List Entry) → opened ≡ opened_fd entries
+        → result ≡ fd_of_call call.now entries }
 {
     match call {
         Call::Enter { .. } => Some(opened?.get() as u8),

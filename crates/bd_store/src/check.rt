@@ -51,7 +51,8 @@ pub fn check_journal(
     ensures legal { IfOk result (λ verdict.
         (verdict ≡ Verdict.Legal) ↔ IsLegalInOrder volume script.now entries.now) }
     ensures broken { IfOk result (λ verdict. (entry rule : ℕ) →
-        (verdict ≡ Verdict.NotLegal entry rule) ↔ BreaksFirst volume script.now entries.now entry rule) }
+        (verdict ≡ Verdict.NotLegal entry rule)
+        ↔ BreaksFirst volume script.now entries.now entry rule) }
     ensures unfinished { IfOk result (λ verdict. (process call : ℕ) →
         (verdict ≡ Verdict.Unfinished process call)
         ↔ LacksEndOf volume script.now entries.now process call) }
@@ -82,7 +83,8 @@ pub fn check_journal(
 fn start(alloc: Global, volume: Volume, script: &Script) -> Result<Progress, OutOfMemory>
     requires volume { IsSoundVolume volume }
     requires script { IsWithinLimits script.now }
-    ensures store { IfOk result (λ progress. Represents progress.store (start_store volume script.now)) }
+    ensures store { IfOk result (λ progress.
+        Represents progress.store (start_store volume script.now)) }
     ensures finished { IfOk result (λ progress. AreFinished script.now [] progress.finished.items) }
 {
     let processes = script.processes.as_slice();
@@ -115,7 +117,8 @@ fn take_entry(
     requires script { IsWithinLimits script.now }
     requires history { (volume : Volume) × IsHistory volume script.now (take number entries.now) s }
     requires store { Represents progress.old.store s }
-    requires finished { AreFinished script.now (take number entries.now) progress.old.finished.items }
+    requires finished {
+        AreFinished script.now (take number entries.now) progress.old.finished.items }
     ensures taken { OnOk result ((entry : Entry) → slice_get entries.now number ≡ Some entry →
         IsTaken script.now (take number entries.now) s entry progress.new.store) }
     ensures finished { OnOk result

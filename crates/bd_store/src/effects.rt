@@ -8,7 +8,7 @@ ghost use Rattle.bd_entry.specs.Store.{size_at, with_descriptor};
 ghost use Rattle.bd_store.specs.Kept.{marks_at};
 ghost use Rattle.bd_store.specs.Kinds.{ends_by_pieces};
 ghost use Rattle.bd_store.specs.Marks.{AreMarksOf, HasKeyOf, HasPieceOf, HasRoom};
-ghost use Rattle.bd_store.specs.Steps.{CanChange, CreatesFile, kept_as, with_noted};
+ghost use Rattle.bd_store.specs.Steps.{CanChange, CreatesFile, kept_after, kept_as, with_noted};
 ghost use Rattle.std.specs.Prelude.{◌≡◌, ◌<◌, ◌≤◌, ◌+◌, ◌*◌, ◌%◌, ◌/◌, None, Some, IsSome, OnOk, OnErr, length, replicate};
 ghost use Rattle.bd_base.specs.Scripts.{IsCall};
 ghost use Rattle.bd_base.specs.declared.limits.TheConstants.{BLOCK_SIZE};
@@ -66,7 +66,8 @@ impl PlainStore {
     fn change_by(&mut self, entry: &Entry) -> Result<(), OutOfMemory>
         requires process { (at_of entry.now).process < length self.old.uids }
         requires fit { CanChange self.old entry.now }
-        ensures change { OnOk result (self.new ≡ kept_as self.old (after_change (bare self.old) entry.now)) }
+        ensures change { OnOk result
+            (self.new ≡ kept_after self.old (λ s. after_change s entry.now)) }
         ensures err { OnErr result (self.new ≡ self.old) }
     {
         match entry {
@@ -147,7 +148,7 @@ impl PlainStore {
     fn write(&mut self, block: BlockNo, range: Range, bytes: &[u8])
         requires { BLOCK_SIZE * block + range.lo + length bytes.now ≤ length self.old.bytes }
         ensures { self.new
-            ≡ kept_as self.old (after_access (bare self.old) true (Some block) range.lo bytes.now) }
+            ≡ kept_after self.old (λ s. after_access s true (Some block) range.lo bytes.now) }
     {
         let from = (BLOCK_SIZE * block.get()) as usize + usize::from(range.lo);
         self.bytes[from..from + bytes.len()].copy_from_slice(bytes);
@@ -160,8 +161,8 @@ impl PlainStore {
         requires one_block { to ≤ BLOCK_SIZE * (size_at self.old.files file / BLOCK_SIZE + 1) }
         requires allowed { growth_refusal self.old.total self.old.files
             (existing_file self.old.files file) to ≡ None }
-        ensures grown { OnOk result (self.new ≡ kept_as self.old (with_growth (bare self.old) file to
-            (growth_block self.old.total self.old.files (existing_file self.old.files file)))) }
+        ensures grown { OnOk result (self.new ≡ kept_after self.old (λ s. with_growth s file to
+            (growth_block s.total s.files (existing_file s.files file)))) }
         ensures err { OnErr result (self.new ≡ self.old) }
     {
         match self.fs.grow_one(file, to) {
@@ -179,8 +180,8 @@ impl PlainStore {
     /// Sets so many bytes from this place on to zero.
     fn clear_bytes(&mut self, from: usize, count: usize)
         requires { from + count ≤ length self.old.bytes }
-        ensures { self.new ≡ kept_as self.old (record (bare self.old) {
-          bytes = with_bytes_at from (replicate count 0) self.old.bytes;
+        ensures { self.new ≡ kept_after self.old (λ s. record s {
+          bytes = with_bytes_at from (replicate count 0) s.bytes;
         }) }
     {
         self.bytes[from..from + count].fill(0);
@@ -190,7 +191,7 @@ impl PlainStore {
     fn set_size(&mut self, file: FileId, size: u64)
         requires exists { IsSome (inode_at self.old.files file) }
         requires enough { length (blocks_of_slot (inode_at self.old.files file)) ≡ blocks_for size }
-        ensures { self.new ≡ kept_as self.old (with_size (bare self.old) file size) }
+        ensures { self.new ≡ kept_after self.old (λ s. with_size s file size) }
     {
         let inode = self.fs.inode(file).unwrap();
         if let Some(block) = inode.blocks.as_slice().last() {
@@ -225,8 +226,8 @@ impl PlainStore {
 
     /// The process is told the size of the file of this descriptor, if that is open.
     fn tell_descriptor(&mut self, process: Pid, fd: u8)
-        ensures { self.new ≡ kept_as self.old
-            (with_descriptor (bare self.old) process fd (with_told_size (bare self.old))) }
+        ensures { self.new
+            ≡ kept_after self.old (λ s. with_descriptor s process fd (with_told_size s)) }
     {
         if let Some(descriptor) = self.descriptors.get(process, fd) {
             let size = self.size_of(descriptor.file);
@@ -257,7 +258,8 @@ impl PlainStore {
     fn end(&mut self, call: &Call, at: &At)
         requires { at.now.process < length self.old.uids }
         ensures rights { AtPlace self.old call.now at.now (λ s p.
-            (bare self.new) ≡ bare (kept_as self.old (with_descriptor_of_call s p.at.process (fd_of p) with_known_size))) }
+            bare self.new ≡ bare (kept_as self.old
+            (with_descriptor_of_call s p.at.process (fd_of p) with_known_size))) }
         ensures here { AreMarksOf (marks_at self.new at.now.process) [] }
         ensures others { (process : ℕ) → process ≢ at.now.process
             → marks_at self.new process ≡ marks_at self.old process }

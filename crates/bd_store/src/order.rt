@@ -25,7 +25,8 @@ pub(crate) fn call_at<'a>(script: &'a Script, at: &At) -> Option<&'a Call>
 pub(crate) fn fits_call(running: &RunningCall, call: &Call, entry: &Entry) -> bool
     requires { IsCall call.now }
     ensures { (entries : List Entry) → AreMarksOf running.now entries →
-        (result ≡ true) ↔ IsOfCall (record { call = call.now; at = at_of entry.now; before = entries }) entry.now }
+        (result ≡ true)
+        ↔ IsOfCall (record { call = call.now; at = at_of entry.now; before = entries }) entry.now }
 {
     is_made_by(call, entry) && has_fields_of(running, call, entry)
 }
@@ -34,7 +35,8 @@ pub(crate) fn fits_call(running: &RunningCall, call: &Call, entry: &Entry) -> bo
 fn has_fields_of(running: &RunningCall, call: &Call, entry: &Entry) -> bool
     requires { IsCall call.now }
     ensures { (entries : List Entry) → AreMarksOf running.now entries →
-        (result ≡ true) ↔ HasFieldsOf (record { call = call.now; at = at_of entry.now; before = entries }) entry.now }
+        (result ≡ true)
+        ↔ HasFieldsOf (record { call = call.now; at = at_of entry.now; before = entries }) entry.now }
 {
     match entry {
         Entry::Opened { mode, how, .. } => opens_as(call, *mode, *how),

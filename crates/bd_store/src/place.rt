@@ -39,7 +39,8 @@ impl PlainStore {
     /// The descriptor of the call, where it is open.
     pub(crate) fn descriptor_of(&self, call: &Call, at: &At) -> Option<&Descriptor>
         requires { at.now.process < length self.now.uids }
-        ensures { AtPlace self.now call.now at.now (λ s p. option_copied result ≡ descriptor_of s p) }
+        ensures { AtPlace self.now call.now at.now (λ s p.
+            option_copied result ≡ descriptor_of s p) }
     {
         let fd = self.fd_of(call, at)?;
         self.descriptors().get(at.process, fd)
@@ -141,7 +142,8 @@ impl PlainStore {
 
     /// How many parts a file has.
     pub(crate) fn part_count(&self, file: FileId) -> u64
-        ensures count { result ≡ parts_for (length (blocks_of_slot (inode_at self.now.files file))) }
+        ensures count { result
+            ≡ parts_for (length (blocks_of_slot (inode_at self.now.files file))) }
         ensures in_range { result ≤ PARTS }
     {
         (self.block_count(file) as u64).div_ceil(PART_BLOCKS)

@@ -22,7 +22,8 @@ impl PlainStore {
     fn denial_of(&self, process: Pid, ask: Ask, file: FileId) -> Option<Reason>
         requires { process < length self.now.uids }
         ensures { result ≡ option_and_then (λ (f : Inode). option_map Denied
-            (denial_of ask (slice_index_or self.now.uids process 0) f.owner f.perms)) (inode_at self.now.files file) }
+            (denial_of ask (slice_index_or self.now.uids process 0) f.owner f.perms))
+            (inode_at self.now.files file) }
     {
         let inode = self.inode(file)?;
         let rule = denial(ask, self.uid(process), inode.owner, inode.perms)?;

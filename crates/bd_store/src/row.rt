@@ -97,7 +97,8 @@ impl Row {
 
     /// The descriptor of this number, if it is open, takes a change.
     pub(crate) fn change(&mut self, fd: u8, change: Change)
-        ensures { self.new ≡ slice_set self.old fd (option_map (changed change) (in_slot self.old fd)) }
+        ensures { self.new
+            ≡ slice_set self.old fd (option_map (changed change) (in_slot self.old fd)) }
     {
         if let Some(slot) = self.slots.get_mut(fd as usize) {
             change_slot(slot, change);

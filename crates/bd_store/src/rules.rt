@@ -26,7 +26,8 @@ impl PlainStore {
         requires process { (at_of entry.now).process < length self.now.uids }
         requires call { IsCall call.now }
         requires piece { IsPieceWhereWrote call.now entry.now }
-        ensures { AtPlace self.now call.now (at_of entry.now) (λ s p. IsBroken s p entry.now result) }
+        ensures { AtPlace self.now call.now (at_of entry.now) (λ s p.
+            IsBroken s p entry.now result) }
     {
         if !self.has_right_way(call, entry) {
             return Some(4);

@@ -118,7 +118,8 @@ impl PlainStore {
         requires process { (at_of entry.now).process < length self.old.uids }
         requires next { IsNextEntry s call.now entry.now }
         ensures keeps { OnOk result
-            ((rule : EntryRule) → FitsStore s (place_in s call.now (at_of entry.now)) entry.now rule) }
+            ((rule : EntryRule) →
+            FitsStore s (place_in s call.now (at_of entry.now)) entry.now rule) }
         ensures effect { OnOk result
             (Represents self.new (effect_of s (place_in s call.now (at_of entry.now)) entry.now)) }
         ensures broken { (number : ℕ) → (result ≡ Err (ApplyError.Broken number))

@@ -60,7 +60,8 @@ impl PlainStore {
     /// The bytes of the block of a file from lo to the lesser of hi and the limit, of an absent block none.
     fn bytes_within(&self, file: FileId, index: u32, range: Range) -> &[u8]
         ensures { result.now ≡ bytes_within self.now.bytes
-            (slice_get (blocks_in (bare self.now) file) index) range (limit_in (bare self.now) file index) }
+            (slice_get (blocks_in (bare self.now) file) index) range
+            (limit_in (bare self.now) file index) }
     {
         let Some(inode) = self.inode(file) else {
             return &[];

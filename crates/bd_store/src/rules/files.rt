@@ -42,7 +42,8 @@ impl PlainStore {
     /// Whether the descriptor is of the call's file.
     fn is_of_file(&self, call: &Call, at: &At, owner: Pid, fd: Fd) -> bool
         requires { at.now.process < length self.now.uids }
-        ensures { AtPlace self.now call.now at.now (λ s p. (result ≡ true) ↔ IsOfFile s p owner fd) }
+        ensures { AtPlace self.now call.now at.now (λ s p.
+            (result ≡ true) ↔ IsOfFile s p owner fd) }
     {
         match self.descriptors().get(owner, fd.get() as u8) {
             Some(descriptor) => self.file_of(call, at) == Some(descriptor.file),

@@ -58,7 +58,8 @@ impl PlainStore {
         requires process { at.now.process < length self.now.uids }
         requires call { IsCall call.now }
         ensures { AtPlace self.now call.now at.now (λ s p.
-            (result ≡ true) ↔ (option_and_then (next_size (size_in s file)) (goal_of s p) ≡ Some to)) }
+            (result ≡ true)
+            ↔ (option_and_then (next_size (size_in s file)) (goal_of s p) ≡ Some to)) }
     {
         let size = self.size_of(file);
         match self.goal_of(call, at) {
@@ -95,7 +96,8 @@ impl PlainStore {
     fn asks_for_size(&self, call: &Call, process: Pid, fd: Fd, told: u64) -> bool
         requires { IsCall call.now }
         ensures { (result ≡ true) ↔ TheDescriptor (descriptor_at (bare self.now) process fd) (λ d.
-            AsksForSize call.now told × (length (blocks_in (bare self.now) d.file) ≡ blocks_for told)) }
+            AsksForSize call.now told
+            × (length (blocks_in (bare self.now) d.file) ≡ blocks_for told)) }
     {
         let Some(descriptor) = self.descriptors().get(process, fd.get() as u8) else {
             return false;

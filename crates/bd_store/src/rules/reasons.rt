@@ -71,7 +71,8 @@ impl PlainStore {
     /// Whether the whole call is refused for this reason, which comes in its middle where it has begun.
     fn is_refused_for(&self, call: &Call, at: &At, reason: &Reason) -> bool
         requires { at.now.process < length self.now.uids }
-        ensures { AtPlace self.now call.now at.now (λ s p. (result ≡ true) ↔ IsRefusedFor s p reason.now) }
+        ensures { AtPlace self.now call.now at.now (λ s p.
+            (result ≡ true) ↔ IsRefusedFor s p reason.now) }
     {
         is_reason(&self.refusal_of(call, at), reason)
             && (!self.running(at.process).has_begun() || is_of_growth(reason))

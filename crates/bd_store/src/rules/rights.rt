@@ -80,7 +80,8 @@ impl PlainStore {
     /// Whether a descriptor gets its next right on this part.
     fn may_attach(&self, process: Pid, fd: Fd, part: Part) -> bool
         ensures { (result ≡ true) ↔ TheDescriptor (descriptor_at (bare self.now) process fd) (λ d.
-            (lowest_unattached (bare self.now) d ≡ Some part) × (has_fragment (bare self.now) d.file part ≡ true)) }
+            (lowest_unattached (bare self.now) d ≡ Some part)
+            × (has_fragment (bare self.now) d.file part ≡ true)) }
     {
         match self.descriptors().get(process, fd.get() as u8) {
             Some(descriptor) => {

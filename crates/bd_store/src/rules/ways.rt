@@ -68,7 +68,8 @@ impl PlainStore {
         requires process { at.now.process < length self.now.uids }
         requires call { IsCall call.now }
         ensures { AtPlace self.now call.now at.now (λ s p. (result ≡ true)
-            ↔ ThePiece p number (λ piece. IsWay (descriptor_of s p) piece (has_missed number p.before) way)) }
+            ↔ ThePiece p number (λ piece.
+            IsWay (descriptor_of s p) piece (has_missed number p.before) way)) }
     {
         let Some(piece) = piece_of(call, number) else {
             return false;
@@ -101,7 +102,8 @@ impl PlainStore {
         requires process { at.now.process < length self.now.uids }
         requires call { IsCall call.now }
         ensures { AtPlace self.now call.now at.now (λ s p. (result ≡ true)
-            ↔ ThePiece p number (λ piece. WentToKernel (descriptor_of s p) piece (has_missed number p.before))) }
+            ↔ ThePiece p number (λ piece.
+            WentToKernel (descriptor_of s p) piece (has_missed number p.before))) }
     {
         let Some(piece) = piece_of(call, number) else {
             return false;

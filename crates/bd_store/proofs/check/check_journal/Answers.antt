@@ -15,7 +15,8 @@ returns-in-Err-Broken-clause-legal c =
     breaks_first c.args.volume c.args.script.now c.args.entries.now c.loop-number.number c.in-Err-Broken.rule it.0 c.loop-number.progress.store
     c.loop-number.progress.finished.items it.1 c.loop-number.invariant
     (c.in-Err-Broken.ensures.broken c.in-Err-Broken.rule it.0 (ap Err c.in-Err-Broken.field-0-is) it.1) in
-    subst (λ (told : ℕ). (NotLegal c.loop-number.number told ≡ Legal) ↔ IsLegalInOrder c.args.volume c.args.script.now c.args.entries.now) (sym c.in-Err-Broken.rule-is)
+    subst (λ (told : ℕ). (NotLegal c.loop-number.number told ≡ Legal) ↔ IsLegalInOrder c.args.volume c.args.script.now c.args.entries.now)
+    (sym c.in-Err-Broken.rule-is)
     (told_legal c.args.volume c.args.script.now c.args.entries.now (NotLegal c.loop-number.number c.in-Err-Broken.rule) breaks)
 
 pub returns-in-Err-Broken-clause-broken : goal.returns-in-Err-Broken-clause-broken
@@ -25,7 +26,8 @@ returns-in-Err-Broken-clause-broken c entry rule =
     breaks_first c.args.volume c.args.script.now c.args.entries.now c.loop-number.number c.in-Err-Broken.rule it.0 c.loop-number.progress.store
     c.loop-number.progress.finished.items it.1 c.loop-number.invariant
     (c.in-Err-Broken.ensures.broken c.in-Err-Broken.rule it.0 (ap Err c.in-Err-Broken.field-0-is) it.1) in
-    subst (λ (told : ℕ). (NotLegal c.loop-number.number told ≡ NotLegal entry rule) ↔ BreaksFirst c.args.volume c.args.script.now c.args.entries.now entry rule) (sym c.in-Err-Broken.rule-is)
+    subst (λ (told : ℕ). (NotLegal c.loop-number.number told ≡ NotLegal entry rule) ↔ BreaksFirst c.args.volume c.args.script.now c.args.entries.now entry rule)
+    (sym c.in-Err-Broken.rule-is)
     (told_broken c.args.volume c.args.script.now c.args.entries.now (NotLegal c.loop-number.number c.in-Err-Broken.rule) breaks entry rule)
 
 pub returns-in-Err-Broken-clause-unfinished : goal.returns-in-Err-Broken-clause-unfinished
@@ -35,7 +37,8 @@ returns-in-Err-Broken-clause-unfinished c process call =
     breaks_first c.args.volume c.args.script.now c.args.entries.now c.loop-number.number c.in-Err-Broken.rule it.0 c.loop-number.progress.store
     c.loop-number.progress.finished.items it.1 c.loop-number.invariant
     (c.in-Err-Broken.ensures.broken c.in-Err-Broken.rule it.0 (ap Err c.in-Err-Broken.field-0-is) it.1) in
-    subst (λ (told : ℕ). (NotLegal c.loop-number.number told ≡ Unfinished process call) ↔ LacksEndOf c.args.volume c.args.script.now c.args.entries.now process call) (sym c.in-Err-Broken.rule-is)
+    subst (λ (told : ℕ). (NotLegal c.loop-number.number told ≡ Unfinished process call) ↔ LacksEndOf c.args.volume c.args.script.now c.args.entries.now process call)
+    (sym c.in-Err-Broken.rule-is)
     (told_unfinished c.args.volume c.args.script.now c.args.entries.now (NotLegal c.loop-number.number c.in-Err-Broken.rule) breaks process call)
 
 pub loop-number-preserved : goal.loop-number-preserved

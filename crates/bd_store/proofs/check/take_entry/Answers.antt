@@ -64,7 +64,9 @@ returns-then-at-index-clause-broken g c rule entry is there_is =
     let called = called-from script c.at_of-at.result (at_of e) c.call_at.result c.in-Some.call c.at_of-at.ensures c.call_at.ensures c.in-Some.is in
     let call = c.in-Some.call.now in
     let there = process_counted script before g.s k finished e so call called in
-    let value = read-finished finished c.at_of-at.result (at_of e) c.get-index.result c.index.result.now c.at_of-at.ensures c.get-index.ensures.value there c.index.ensures in
+    let value =
+    read-finished finished c.at_of-at.result (at_of e) c.get-index.result c.index.result.now c.at_of-at.ensures c.get-index.ensures.value there
+    c.index.ensures in
     let number = ap (λ (a : At). a.call) c.at_of-at.ensures in
     told-of script before g.s e entry 1 rule mine tells
     (breaks_other script before g.s k finished e so call called (λ equal. c.if-at-index.true (number ∙ equal ∙ sym value)))
@@ -110,7 +112,9 @@ returns-then-not-fits_call-clause-broken g c rule entry is there_is =
     let called = called-from script c.at_of-at.result (at_of e) c.call_at.result c.in-Some.call c.at_of-at.ensures c.call_at.ensures c.in-Some.is in
     let call = c.in-Some.call.now in
     let there = process_counted script before g.s k finished e so call called in
-    let value = read-finished finished c.at_of-at.result (at_of e) c.get-index.result c.index.result.now c.at_of-at.ensures c.get-index.ensures.value there c.index.ensures in
+    let value =
+    read-finished finished c.at_of-at.result (at_of e) c.get-index.result c.index.result.now c.at_of-at.ensures c.get-index.ensures.value there
+    c.index.ensures in
     let number = ap (λ (a : At). a.call) c.at_of-at.ensures in
     let same : (at_of e).call ≡ slice_index finished (at_of e).process = sym number ∙ c.if-at-index.false ∙ value in
     let process = ap (λ (a : At). a.process) c.at_of-at.ensures in
@@ -133,7 +137,9 @@ returns-then-not-is_first_of_kind-clause-broken g c rule entry is there_is =
     let called = called-from script c.at_of-at.result (at_of e) c.call_at.result c.in-Some.call c.at_of-at.ensures c.call_at.ensures c.in-Some.is in
     let call = c.in-Some.call.now in
     let there = process_counted script before g.s k finished e so call called in
-    let value = read-finished finished c.at_of-at.result (at_of e) c.get-index.result c.index.result.now c.at_of-at.ensures c.get-index.ensures.value there c.index.ensures in
+    let value =
+    read-finished finished c.at_of-at.result (at_of e) c.get-index.result c.index.result.now c.at_of-at.ensures c.get-index.ensures.value there
+    c.index.ensures in
     let number = ap (λ (a : At). a.call) c.at_of-at.ensures in
     let same : (at_of e).call ≡ slice_index finished (at_of e).process = sym number ∙ c.if-at-index.false ∙ value in
     let process = ap (λ (a : At). a.process) c.at_of-at.ensures in
@@ -155,7 +161,9 @@ apply-requires g c =
     let called = called-from script c.at_of-at.result (at_of e) c.call_at.result c.in-Some.call c.at_of-at.ensures c.call_at.ensures c.in-Some.is in
     let call = c.in-Some.call.now in
     let there = process_counted script before g.s k finished e so call called in
-    let value = read-finished finished c.at_of-at.result (at_of e) c.get-index.result c.index.result.now c.at_of-at.ensures c.get-index.ensures.value there c.index.ensures in
+    let value =
+    read-finished finished c.at_of-at.result (at_of e) c.get-index.result c.index.result.now c.at_of-at.ensures c.get-index.ensures.value there
+    c.index.ensures in
     let number = ap (λ (a : At). a.call) c.at_of-at.ensures in
     let same : (at_of e).call ≡ slice_index finished (at_of e).process = sym number ∙ c.if-at-index.false ∙ value in
     let process = ap (λ (a : At). a.process) c.at_of-at.ensures in
@@ -177,7 +185,9 @@ returns-in_err-apply-clause-broken g c rule entry is there_is =
     let called = called-from script c.at_of-at.result (at_of e) c.call_at.result c.in-Some.call c.at_of-at.ensures c.call_at.ensures c.in-Some.is in
     let call = c.in-Some.call.now in
     let there = process_counted script before g.s k finished e so call called in
-    let value = read-finished finished c.at_of-at.result (at_of e) c.get-index.result c.index.result.now c.at_of-at.ensures c.get-index.ensures.value there c.index.ensures in
+    let value =
+    read-finished finished c.at_of-at.result (at_of e) c.get-index.result c.index.result.now c.at_of-at.ensures c.get-index.ensures.value there
+    c.index.ensures in
     let number = ap (λ (a : At). a.call) c.at_of-at.ensures in
     let same : (at_of e).call ≡ slice_index finished (at_of e).process = sym number ∙ c.if-at-index.false ∙ value in
     let process = ap (λ (a : At). a.process) c.at_of-at.ensures in
@@ -201,7 +211,9 @@ is_running-requires g c =
     let called = called-from script c.at_of-at.result (at_of e) c.call_at.result c.in-Some.call c.at_of-at.ensures c.call_at.ensures c.in-Some.is in
     let call = c.in-Some.call.now in
     let there = process_counted script before g.s k finished e so call called in
-    let value = read-finished finished c.at_of-at.result (at_of e) c.get-index.result c.index.result.now c.at_of-at.ensures c.get-index.ensures.value there c.index.ensures in
+    let value =
+    read-finished finished c.at_of-at.result (at_of e) c.get-index.result c.index.result.now c.at_of-at.ensures c.get-index.ensures.value there
+    c.index.ensures in
     let number = ap (λ (a : At). a.call) c.at_of-at.ensures in
     let same : (at_of e).call ≡ slice_index finished (at_of e).process = sym number ∙ c.if-at-index.false ∙ value in
     let process = ap (λ (a : At). a.process) c.at_of-at.ensures in
@@ -239,11 +251,15 @@ overflow_add-index_mut g c =
     let called = called-from script c.at_of-at.result (at_of e) c.call_at.result c.in-Some.call c.at_of-at.ensures c.call_at.ensures c.in-Some.is in
     let call = c.in-Some.call.now in
     let there = process_counted script before g.s k finished e so call called in
-    let value = read-finished finished c.at_of-at.result (at_of e) c.get-index.result c.index.result.now c.at_of-at.ensures c.get-index.ensures.value there c.index.ensures in
+    let value =
+    read-finished finished c.at_of-at.result (at_of e) c.get-index.result c.index.result.now c.at_of-at.ensures c.get-index.ensures.value there
+    c.index.ensures in
     let number = ap (λ (a : At). a.call) c.at_of-at.ensures in
     let same : (at_of e).call ≡ slice_index finished (at_of e).process = sym number ∙ c.if-at-index.false ∙ value in
     let most = counts_on script before g.s k finished e so call called same in
-    let counted = read-finished finished c.at_of-at.result (at_of e) c.get-index.result c.index_mut.result.now c.at_of-at.ensures c.get-index.ensures.value there c.index_mut.ensures.value in
+    let counted =
+    read-finished finished c.at_of-at.result (at_of e) c.get-index.result c.index_mut.result.now c.at_of-at.ensures c.get-index.ensures.value there
+    c.index_mut.ensures.value in
     omega (arith, most, counted)
 
 pub returns-then-not-is_running-clause-taken : goal.returns-then-not-is_running-clause-taken
@@ -259,7 +275,9 @@ returns-then-not-is_running-clause-taken g c entry there_is =
     let called = called-from script c.at_of-at.result (at_of e) c.call_at.result c.in-Some.call c.at_of-at.ensures c.call_at.ensures c.in-Some.is in
     let call = c.in-Some.call.now in
     let there = process_counted script before g.s k finished e so call called in
-    let value = read-finished finished c.at_of-at.result (at_of e) c.get-index.result c.index.result.now c.at_of-at.ensures c.get-index.ensures.value there c.index.ensures in
+    let value =
+    read-finished finished c.at_of-at.result (at_of e) c.get-index.result c.index.result.now c.at_of-at.ensures c.get-index.ensures.value there
+    c.index.ensures in
     let number = ap (λ (a : At). a.call) c.at_of-at.ensures in
     let same : (at_of e).call ≡ slice_index finished (at_of e).process = sym number ∙ c.if-at-index.false ∙ value in
     let process = ap (λ (a : At). a.process) c.at_of-at.ensures in
@@ -283,20 +301,26 @@ returns-then-not-is_running-clause-finished g c =
     let called = called-from script c.at_of-at.result (at_of e) c.call_at.result c.in-Some.call c.at_of-at.ensures c.call_at.ensures c.in-Some.is in
     let call = c.in-Some.call.now in
     let there = process_counted script before g.s k finished e so call called in
-    let value = read-finished finished c.at_of-at.result (at_of e) c.get-index.result c.index.result.now c.at_of-at.ensures c.get-index.ensures.value there c.index.ensures in
+    let value =
+    read-finished finished c.at_of-at.result (at_of e) c.get-index.result c.index.result.now c.at_of-at.ensures c.get-index.ensures.value there
+    c.index.ensures in
     let number = ap (λ (a : At). a.call) c.at_of-at.ensures in
     let same : (at_of e).call ≡ slice_index finished (at_of e).process = sym number ∙ c.if-at-index.false ∙ value in
     let process = ap (λ (a : At). a.process) c.at_of-at.ensures in
     let marks : c.running-running.result.now ≡ marks_at k (at_of e).process = c.running-running.ensures ∙ ap (marks_at k) process in
     let next = c.apply.new.self in
-    let told : (marks_at next (at_of e).process).begun ≡ false = ap (λ (p : ℕ). (marks_at next p).begun) (sym process) ∙ sym c.is_running.ensures ∙ c.if-not-is_running.true in
+    let told : (marks_at next (at_of e).process).begun ≡ false =
+    ap (λ (p : ℕ). (marks_at next p).begun) (sym process) ∙ sym c.is_running.ensures ∙ c.if-not-is_running.true in
     let counts = counts-ended script before g.s k finished e so call called same c.running-running.result.now marks
     c.fits_call.result c.fits_call.ensures c.if-not-fits_call.false c.is_first_of_kind.result c.is_first_of_kind.ensures
     c.if-not-is_first_of_kind.false
     next c.in_ok-apply.ensures.keeps c.in_ok-apply.ensures.effect told in
-    let counted = read-finished finished c.at_of-at.result (at_of e) c.get-index.result c.index_mut.result.now c.at_of-at.ensures c.get-index.ensures.value there c.index_mut.ensures.value in
+    let counted =
+    read-finished finished c.at_of-at.result (at_of e) c.get-index.result c.index_mut.result.now c.at_of-at.ensures c.get-index.ensures.value there
+    c.index_mut.ensures.value in
     let index : c.get-index.result ≡ (at_of e).process = c.get-index.ensures.value ∙ process in
-    let one_more : slice_set finished (at_of e).process (slice_index finished (at_of e).process + 1) ≡ slice_set finished c.get-index.result (c.index_mut.result.now + 1) =
+    let one_more : slice_set finished (at_of e).process (slice_index finished (at_of e).process + 1)
+    ≡ slice_set finished c.get-index.result (c.index_mut.result.now + 1) =
     ap (λ (i : ℕ). slice_set finished i (slice_index finished (at_of e).process + 1)) (sym index)
     ∙ ap (λ (n : ℕ). slice_set finished c.get-index.result (n + 1)) (sym counted) in
     let there_is = read-there c.args.entries.now c.args.number e c.requires.0 c.index-entries-number.is in
@@ -316,7 +340,9 @@ returns-else-not-is_running-clause-taken g c entry there_is =
     let called = called-from script c.at_of-at.result (at_of e) c.call_at.result c.in-Some.call c.at_of-at.ensures c.call_at.ensures c.in-Some.is in
     let call = c.in-Some.call.now in
     let there = process_counted script before g.s k finished e so call called in
-    let value = read-finished finished c.at_of-at.result (at_of e) c.get-index.result c.index.result.now c.at_of-at.ensures c.get-index.ensures.value there c.index.ensures in
+    let value =
+    read-finished finished c.at_of-at.result (at_of e) c.get-index.result c.index.result.now c.at_of-at.ensures c.get-index.ensures.value there
+    c.index.ensures in
     let number = ap (λ (a : At). a.call) c.at_of-at.ensures in
     let same : (at_of e).call ≡ slice_index finished (at_of e).process = sym number ∙ c.if-at-index.false ∙ value in
     let process = ap (λ (a : At). a.process) c.at_of-at.ensures in
@@ -340,15 +366,19 @@ returns-else-not-is_running-clause-finished g c =
     let called = called-from script c.at_of-at.result (at_of e) c.call_at.result c.in-Some.call c.at_of-at.ensures c.call_at.ensures c.in-Some.is in
     let call = c.in-Some.call.now in
     let there = process_counted script before g.s k finished e so call called in
-    let value = read-finished finished c.at_of-at.result (at_of e) c.get-index.result c.index.result.now c.at_of-at.ensures c.get-index.ensures.value there c.index.ensures in
+    let value =
+    read-finished finished c.at_of-at.result (at_of e) c.get-index.result c.index.result.now c.at_of-at.ensures c.get-index.ensures.value there
+    c.index.ensures in
     let number = ap (λ (a : At). a.call) c.at_of-at.ensures in
     let same : (at_of e).call ≡ slice_index finished (at_of e).process = sym number ∙ c.if-at-index.false ∙ value in
     let process = ap (λ (a : At). a.process) c.at_of-at.ensures in
     let marks : c.running-running.result.now ≡ marks_at k (at_of e).process = c.running-running.ensures ∙ ap (marks_at k) process in
     let next = c.apply.new.self in
-    let told : (marks_at next (at_of e).process).begun ≡ true = ap (λ (p : ℕ). (marks_at next p).begun) (sym process) ∙ sym c.is_running.ensures ∙ c.if-not-is_running.false in
+    let told : (marks_at next (at_of e).process).begun ≡ true =
+    ap (λ (p : ℕ). (marks_at next p).begun) (sym process) ∙ sym c.is_running.ensures ∙ c.if-not-is_running.false in
     let counts = counts-running script before g.s k finished e so call called same c.running-running.result.now marks
     c.fits_call.result c.fits_call.ensures c.if-not-fits_call.false c.is_first_of_kind.result c.is_first_of_kind.ensures
     c.if-not-is_first_of_kind.false
     next c.in_ok-apply.ensures.keeps c.in_ok-apply.ensures.effect told in
-    subst (λ (journal : List Entry). AreFinished script journal finished) (sym (take-push c.args.entries.now c.args.number e (read-there c.args.entries.now c.args.number e c.requires.0 c.index-entries-number.is))) counts
+    let there_is = read-there c.args.entries.now c.args.number e c.requires.0 c.index-entries-number.is in
+    subst (λ (journal : List Entry). AreFinished script journal finished) (sym (take-push c.args.entries.now c.args.number e there_is)) counts
