@@ -321,7 +321,7 @@ few-after s call e rights few = few-other s call e refl few
 -- ---- histories
 
 -- no pair is in use at the start
-none_in_row : (n : ℕ) → flat_map pairs_of_slot (replicate n None) ≡ []
+pub none_in_row : (n : ℕ) → flat_map pairs_of_slot (replicate n None) ≡ []
 none_in_row zero = refl
 none_in_row (suc n) = none_in_row n
 

@@ -334,7 +334,7 @@ in_range s call (Refused at (Some number) reason) kept =
 -- ---- a journal
 
 -- a process has few calls
-few_calls : (script : Script) → IsWithinLimits script → (process : ℕ) → length (calls_of script process) ≤ CALLS
+pub few_calls : (script : Script) → IsWithinLimits script → (process : ℕ) → length (calls_of script process) ≤ CALLS
 few_calls script limits process = by_process (slice_get script.processes process) refl
   where
     by_process : (o : Option Process) → slice_get script.processes process ≡ o → length (option_map_or (λ (p : Process). p.calls) o []) ≤ CALLS

@@ -46,7 +46,7 @@ KeepsAll s call e = (rule : EntryRule) → FitsStore s (place_in s call (at_of e
 
 -- ---- what the next entry of a call is
 
-is_of_call : (s : Store) (call : Call) (e : Entry) → IsNextEntry s call e → IsOfCall (place_in s call (at_of e)) e
+pub is_of_call : (s : Store) (call : Call) (e : Entry) → IsNextEntry s call e → IsOfCall (place_in s call (at_of e)) e
 is_of_call s call e next =
     (AreOfCall-parts (record { call = call; at = at_of e; before = [] }) (work_of s (at_of e).process) (e ∷ []) next.of_call).1.0
 
@@ -59,7 +59,7 @@ create_ends name perms (Refused at None reason) made = refl
 create_ends name perms other made = absurd (false≢true made)
 
 -- so nothing stands before an entry of one
-first_of_create : (name : List ℕ) (perms : ℕ) (at : At) (before : List Entry) (e : Entry) →
+pub first_of_create : (name : List ℕ) (perms : ℕ) (at : At) (before : List Entry) (e : Entry) →
     AreOfCall (record { call = Create name perms; at = at; before = [] }) (before ++ e ∷ []) →
     is_ended_by (Create name perms) before ≡ false → before ≡ []
 first_of_create name perms at [] e all unfinished = refl
