@@ -1,2 +1,3 @@
 -- Lemmas that the proofs share.
 pub mod Telling
+pub mod Order

@@ -48,14 +48,15 @@ abbrev pub is_detach : Entry → Bool
 is_detach (Detached at owner fd part) = true
 is_detach entry = false
 
+-- a number after its name
+abbrev pub total_text : List ℕ → ℕ → List ℕ
+total_text name number = name ++ number_text number
+
 -- the last line, with these numbers
 abbrev pub totals_line : ℕ → ℕ → ℕ → ℕ → List ℕ
 totals_line direct kernel missed detached =
-    before (codes "total")
-    (before (codes "direct") (before (number_text direct)
-    (before (codes "kernel") (before (number_text kernel)
-    (before (codes "missed") (before (number_text missed)
-    (before (codes "detached") (number_text detached ++ LF ∷ []))))))))
+    total_text (codes "total direct ") direct ++ total_text (codes " kernel ") kernel
+    ++ total_text (codes " missed ") missed ++ total_text (codes " detached ") detached ++ LF ∷ []
 
 -- the last line of a report: how many entries of each kind the journal has
 abbrev pub total_line : List Entry → List ℕ

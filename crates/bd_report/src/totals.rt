@@ -1,10 +1,10 @@
 //! The totals of a journal.
 ghost use Rattle.std.specs.Prelude.{◌≡◌, ◌++◌, OnOk};
-ghost use Rattle.bd_report.specs.Reports.{totals_line};
+ghost use Rattle.bd_report.specs.Reports.{total_text, totals_line};
 ghost use Rattle.bd_report.specs.Totals.{AreTotals};
 
 use bd_base::{OutOfMemory, Way};
-use bd_blocks::text::{LF, push_field, push_number, push_number_field};
+use bd_blocks::text::{LF, push_bytes, push_number};
 use bd_entry::Entry;
 
 /// How many entries of some kinds a journal has.
@@ -45,20 +45,23 @@ pub(crate) fn totals_of(journal: &[Entry]) -> Totals
     totals
 }
 
+/// Appends a number after its name.
+fn push_total(text: &mut Vec<u8>, name: &[u8], number: u64) -> Result<(), OutOfMemory>
+    ensures { OnOk result (text.new.items ≡ text.old.items ++ total_text name.now number) }
+{
+    push_bytes(text, name)?;
+    push_number(text, number)
+}
+
 /// Appends the last line of a report.
 pub(crate) fn push_totals(text: &mut Vec<u8>, totals: Totals) -> Result<(), OutOfMemory>
     ensures { OnOk result (text.new.items ≡ text.old.items
         ++ totals_line totals.direct totals.kernel totals.missed totals.detached) }
 {
-    push_field(text, b"total")?;
-    push_field(text, b"direct")?;
-    push_number_field(text, totals.direct)?;
-    push_field(text, b"kernel")?;
-    push_number_field(text, totals.kernel)?;
-    push_field(text, b"missed")?;
-    push_number_field(text, totals.missed)?;
-    push_field(text, b"detached")?;
-    push_number(text, totals.detached)?;
+    push_total(text, b"total direct ", totals.direct)?;
+    push_total(text, b" kernel ", totals.kernel)?;
+    push_total(text, b" missed ", totals.missed)?;
+    push_total(text, b" detached ", totals.detached)?;
     text.push(LF)?;
     Ok(())
 }
