@@ -1,3 +1,5 @@
 -- Lemmas that the proofs share.
 pub mod Telling
 pub mod Order
+pub mod Tables
+pub mod Lines

@@ -1,5 +1,5 @@
 -- The entries of a journal in order: each is of a call of the script, and answers one of few pieces.
-use Rattle.std.proofs.Common.{◌≡◌, ℕ, ◌<◌, ◌≤◌, All, List, [], ◌∷◌, ◌++◌, length, Option, None, Some, arith, refl, ◌∙◌, sym, ⊎_elim}
+use Rattle.std.proofs.Common.{◌≡◌, ℕ, ◌<◌, ◌≤◌, All, List, [], ◌∷◌, ◌++◌, length, get_or, Option, None, Some, arith, refl, ◌∙◌, sym, subst, ⊎_elim}
 use Rattle.std.specs.Prelude.{IfSome, IsSome, slice_get}
 use Rattle.std.specs.Option.{option_map_or}
 use Rattle.std.proofs.lemmas.Bool.{false≢true}
@@ -60,9 +60,14 @@ noted-push script limits before e fits all =
     All-push (IsNoted script) before e all
     (record { call = found.0; called = found.1; few = few_of _ e (is_call script (at_of e) found.0 limits found.1) of_call.fields })
 
-pub all_noted : (script : Script) (journal : List Entry) → IsWithinLimits script → InOrderSoFar script journal → All (IsNoted script) journal
+all_noted : (script : Script) (journal : List Entry) → IsWithinLimits script → InOrderSoFar script journal → All (IsNoted script) journal
 all_noted script journal limits order =
     order_holds script (All (IsNoted script)) (All-nil (IsNoted script)) (noted-push script limits) journal order
+
+-- the one at this place
+pub noted_at : (script : Script) (journal : List Entry) (i : ℕ) (e : Entry) → IsWithinLimits script → InOrderSoFar script journal →
+    i < length journal → e ≡ get_or journal i e → IsNoted script e
+noted_at script journal i e limits order inside is = subst (IsNoted script) (sym is) (all_noted script journal limits order i e inside)
 
 -- so all pieces that are answered are few
 pub all_few : (script : Script) (journal : List Entry) → IsWithinLimits script → InOrderSoFar script journal → AreFew journal
