@@ -3,3 +3,4 @@ pub mod Telling
 pub mod Order
 pub mod Tables
 pub mod Lines
+pub mod Example

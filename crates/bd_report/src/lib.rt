@@ -8,3 +8,6 @@ mod told;
 mod totals;
 
 pub use run::{reply, report};
+
+#[cfg(test)]
+mod tests;

@@ -45,9 +45,9 @@ returns c =
       c.loop-call_number.auto.call_number-end,
       ap length c.as_slice-call-items.ensures,
       ap length
-      (calls_are run.script.now c.args.number c.index-as_slice-number.result
-      (stands c.as_slice.result.now run.script.now.processes c.args.number c.index-as_slice-number.result c.as_slice.ensures
-      (omega (arith, c.requires.inside, ap length c.as_slice.ensures)) c.index-as_slice-number.is)),
+          (calls_are run.script.now c.args.number c.index-as_slice-number.result
+          (stands c.as_slice.result.now run.script.now.processes c.args.number c.index-as_slice-number.result c.as_slice.ensures
+          (omega (arith, c.requires.inside, ap length c.as_slice.ensures)) c.index-as_slice-number.is)),
     ) in
     let first : c.push.new.self.items ≡ c.args.text.now.items ++ before (codes "proc") (number ++ LF ∷ []) =
     rw (c.in_ok-push.ensures.items, c.in_ok-push_number.ensures, c.in_ok-push_field.ensures) (header c.args.text.now.items number) in
