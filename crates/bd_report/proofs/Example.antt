@@ -1,5 +1,5 @@
 -- The example of the tests: its script, its journal, and that the journal is in order for the script.
-use Rattle.std.proofs.Common.{◌≡◌, ℕ, zero, suc, ◌+◌, ◌<◌, Bool, true, false, ◌&&◌, nat_lt, All, List, [], ◌∷◌, ◌++◌, None, Some, length, replicate, take, arith, refl, sym, ap, ◌∙◌, inl, subst}
+use Rattle.std.proofs.Common.{◌≡◌, ℕ, zero, suc, ◌+◌, ◌<◌, Bool, true, false, ◌&&◌, nat_lt, All, List, [], ◌∷◌, ◌++◌, None, Some, length, replicate, take, arith, lit≤, refl, sym, ap, ◌∙◌, inl, subst}
 use Rattle.std.specs.Prelude.{codes, not}
 use Rattle.std.specs.List.{list_all, range_with_len}
 use Rattle.std.proofs.lemmas.Bool.{and_parts, cases_Bool, ltb-true}
@@ -24,6 +24,8 @@ use Rattle.bd_entry.specs.History.{InOrder, InOrderSoFar}
 use Rattle.bd_entry.specs.Ranges.{AreEntries, IsEntry}
 use Rattle.bd_entry.specs.Rules.{EntryRule, FitsCall, FitsScript, NextCall, Once}
 use Rattle.bd_entry.proofs.CallOrder.{numbered}
+use Rattle.bd_blocks.specs.Texts.{number_text}
+use Rattle.bd_script.specs.Texts.{IsScript}
 
 -- ---- tests of lists
 
@@ -150,6 +152,11 @@ within_limits = record {
   schedule = All-nil (IsSchedule (length script.processes));
   turns = omega arith;
 }
+
+-- its text is not too long
+pub is_script : IsScript script
+unfolding number_text
+is_script = record { limits = within_limits; size = lit≤ tt }
 
 -- ---- the journal
 
