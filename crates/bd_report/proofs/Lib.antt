@@ -1,0 +1,6 @@
+-- Lemmas that the proofs share.
+pub mod Telling
+pub mod Order
+pub mod Tables
+pub mod Lines
+pub mod Example

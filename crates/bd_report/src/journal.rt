@@ -1,0 +1,74 @@
+//! What a journal tells of each call of its script.
+ghost use Rattle.std.specs.Prelude.{◌≡◌, ◌<◌, ◌++◌, All, IfOk, IsSome, List, OnOk, Some, [], length, true};
+ghost use Rattle.bd_base.specs.Scripts.{IsWithinLimits};
+ghost use Rattle.bd_base.specs.declared.script.Call.{Call};
+ghost use Rattle.bd_entry.specs.Calls.{call_at, entries_of};
+ghost use Rattle.bd_entry.specs.History.{InOrderSoFar};
+ghost use Rattle.bd_report.specs.Told.{AreFew, AreTold, Tells, slot_of};
+
+use crate::told::Told;
+use bd_base::{At, CALLS, Call, OutOfMemory, Script};
+use bd_entry::{Entry, at_of};
+use std::alloc::Global;
+
+/// The call at this place of a script.
+pub(crate) fn call_at<'s>(script: &'s Script, at: &At) -> &'s Call
+    requires { IsSome (call_at script.now at.now) }
+    ensures { call_at script.now at.now ≡ Some result.now }
+{
+    let process = &script.processes.as_slice()[at.process.get() as usize];
+    &process.calls.as_slice()[usize::from(at.call)]
+}
+
+/// What the journal tells of one call.
+pub(crate) fn told_of_call<'a>(journal: &'a [Entry], at: At, call: &Call) -> Told<'a>
+    requires { AreFew journal.now }
+    ensures { Tells call.now (entries_of at journal.now) result }
+{
+    let mut told = Told::nothing();
+    for entry in journal {
+        if at_of(entry) == at {
+            told.note(call, entry);
+        }
+    }
+    told
+}
+
+/// The place of a call in a table that has room for all calls that each process may have.
+pub(crate) fn slot_of(at: At) -> usize
+    ensures { result ≡ slot_of at }
+{
+    CALLS as usize * at.process.get() as usize + usize::from(at.call)
+}
+
+/// So many calls of which nothing is told.
+fn nothing_told<'a>(alloc: Global, count: usize) -> Result<Vec<Told<'a>>, OutOfMemory>
+    ensures count { IfOk result (λ table. length table.items ≡ count) }
+    ensures nothing { IfOk result
+        (λ table. All (λ told. (call : Call) → Tells call [] told) table.items) }
+{
+    let mut table = Vec::with_capacity(alloc, count)?;
+    for _ in 0..count {
+        table.push(Told::nothing())?;
+    }
+    Ok(table)
+}
+
+/// What the journal tells of each call, by their places in a table.
+pub(crate) fn told_of_calls<'a>(
+    alloc: Global,
+    script: &Script,
+    journal: &'a [Entry],
+) -> Result<Vec<Told<'a>>, OutOfMemory>
+    requires limits { IsWithinLimits script.now }
+    requires in_order { InOrderSoFar script.now journal.now }
+    ensures { IfOk result (λ table. AreTold script.now journal.now table.items) }
+{
+    let mut table = nothing_told(alloc, CALLS as usize * script.processes.len())?;
+    for entry in journal {
+        let at = at_of(entry);
+        let told = &mut table[slot_of(at)];
+        told.note(call_at(script, &at), entry);
+    }
+    Ok(table)
+}

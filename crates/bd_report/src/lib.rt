@@ -1,0 +1,13 @@
+//! The texts of replies and of the report of a run, from its script and its journal alone.
+#![tactic(auto)]
+
+mod journal;
+mod replies;
+mod run;
+mod told;
+mod totals;
+
+pub use run::{reply, report};
+
+#[cfg(test)]
+mod tests;
