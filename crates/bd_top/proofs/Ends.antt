@@ -4,7 +4,10 @@ use Rattle.bd_base.specs.declared.limits.TheConstants.{IMAGE_SIZE, SCRIPT_SIZE}
 use Rattle.bd_base.specs.declared.script.Script.{Script}
 use Rattle.bd_base.specs.declared.volume.Volume.{Volume}
 use Rattle.bd_image.specs.Rules.{Accepted, Broken}
-use Rattle.bd_image.specs.Volumes.{volume_of}
+use Rattle.bd_gen.specs.Script.{made_script}
+use Rattle.bd_gen.specs.Volume.{made_volume}
+use Rattle.bd_image.specs.Volumes.{image_of, volume_of}
+use Rattle.bd_script.specs.Texts.{script_text}
 use Rattle.bd_machine.specs.Refusals.{IsNotSimple}
 use Rattle.bd_machine.specs.Simple.{IsSimpleText}
 use Rattle.bd_outside.specs.Around.{Left, ReadPast, Reading, Writing}
@@ -12,7 +15,7 @@ use Rattle.bd_outside.proofs.Steps.{taken-le}
 use Rattle.bd_top.specs.declared.status.Outcome.{Outcome}
 use Rattle.bd_top.specs.declared.status.Status.{Status}
 use Rattle.bd_top.specs.declared.status.Status.TheVariants.{Done, Usage, ReadFault, WriteFault, BadImage, BadScript, OutOfMemory}
-use Rattle.bd_top.specs.Ends.{Around, CheckEnd, Decide, IsFault, LeadCheckTo, LeadReplayTo, LineWritten, ReplayEnd, RunWritten}
+use Rattle.bd_top.specs.Ends.{ReplayAround, CheckEnd, Decide, IsFault, LeadCheckTo, LeadReplayTo, LineWritten, MakeEnd, ReplayEnd, TextAndImageWritten}
 use Rattle.bd_top.specs.CheckLine.{check_line}
 use Rattle.bd_top.specs.Inputs.{IsBadImage, IsBadScript, IsImageRead, IsScriptRead, RefusesImage, RefusesReplay}
 use Rattle.bd_top.specs.Runs.{IsReplay}
@@ -27,19 +30,19 @@ abbrev pub OneRefusal : Type 0
 OneRefusal = (b : List ℕ) (m p n q : ℕ) → Broken b m p → Broken b n q → (m ≡ n) × (p ≡ q)
 
 -- what was left is longer than the limit where the bytes that were read are
-long_left : (r : Reading) (limit : ℕ) (bytes left : List ℕ) → r.left ≡ Some left → ReadPast limit r bytes → limit < length left
+pub long_left : (r : Reading) (limit : ℕ) (bytes left : List ℕ) → r.left ≡ Some left → ReadPast limit r bytes → limit < length left
 long_left r limit bytes left is past = omega (arith, taken-le r.left r.remains bytes left is past.0, past.1)
 
 -- ---- what was read of an image, and what was left
 
 module _ (not : NotAccepted) (one : OneRefusal) (image : Reading) where
   -- an image that was read breaks no rule
-  not_broken : (v : Volume) (rule place : ℕ) → IsImageRead image v → Left image (λ b. Broken b rule place) → ⊥
+  pub not_broken : (v : Volume) (rule place : ℕ) → IsImageRead image v → Left image (λ b. Broken b rule place) → ⊥
   not_broken v rule place read broken =
       not broken.0 rule place broken.2 (subst Accepted (read.read broken.0 broken.1).0 read.accepted)
 
   -- one that was refused is not accepted
-  not_accepted : (r p : ℕ) → IsBadImage image r p → Left image Accepted → ⊥
+  pub not_accepted : (r p : ℕ) → IsBadImage image r p → Left image Accepted → ⊥
   not_accepted r p bad accepted =
       elim bad.read [
         | inl all ↦ not accepted.0 r p (subst (λ (b : List ℕ). Broken b r p) (all.0 accepted.0 accepted.1).0 bad.broken) accepted.2
@@ -47,7 +50,7 @@ module _ (not : NotAccepted) (one : OneRefusal) (image : Reading) where
       ]
 
   -- it was refused with the rule and the place that it breaks
-  same_refusal : (r p rule place : ℕ) → IsBadImage image r p → Left image (λ b. Broken b rule place) → (r ≡ rule) × (p ≡ place)
+  pub same_refusal : (r p rule place : ℕ) → IsBadImage image r p → Left image (λ b. Broken b rule place) → (r ≡ rule) × (p ≡ place)
   same_refusal r p rule place bad broken =
       elim bad.read [
         | inl all ↦ one broken.0 r p rule place (subst (λ (b : List ℕ). Broken b r p) (all.0 broken.0 broken.1).0 bad.broken) broken.2
@@ -59,7 +62,7 @@ module _ (not : NotAccepted) (one : OneRefusal) (image : Reading) where
       ]
 
   -- the volume that was read is the one of the image that was left
-  same_volume : (v : Volume) (b : List ℕ) → IsImageRead image v → image.left ≡ Some b → v ≡ volume_of b
+  pub same_volume : (v : Volume) (b : List ℕ) → IsImageRead image v → image.left ≡ Some b → v ≡ volume_of b
   same_volume v b read is = read.says ∙ ap volume_of (read.read b is).0
 
   -- ---- what was read of a script, and what was left
@@ -105,7 +108,7 @@ module _ (not : NotAccepted) (one : OneRefusal) (image : Reading) where
 
   -- a replay that was run
   ran_decided : (text : Reading) (out disk : Writing) (outcome : Outcome) (report left : List ℕ) (status decided : Status)
-      → IsReplay image text outcome.journal outcome.trace report left → RunWritten out disk report left status
+      → IsReplay image text outcome.journal outcome.trace report left → TextAndImageWritten out disk report left status
       → LeadReplayTo image text decided → (status ≡ decided) ⊎ IsFault status
   ran_decided text out disk outcome report left (ReadFault which) decided run written lead = inr tt
   ran_decided text out disk outcome report left (WriteFault to) decided run written lead = inr tt
@@ -152,18 +155,36 @@ module _ (not : NotAccepted) (one : OneRefusal) (image : Reading) where
   check_decided out status (inl none) = λ decided lead. refused_check_decided status decided none.0 lead
   check_decided out status (inr told) = λ decided lead. told_decided told.0 out status decided told.1 told.2 lead
 
+-- ---- make
+
+written_decided : (out disk : Writing) (text image : List ℕ) (status : Status) → TextAndImageWritten out disk text image status
+    → (status ≡ Done) ⊎ IsFault status
+written_decided out disk text image Done written = inl refl
+written_decided out disk text image (WriteFault to) written = inr tt
+written_decided out disk text image OutOfMemory written = inr tt
+written_decided out disk text image status written = absurd written
+
+pub make_decided : (n : ℕ) (out disk : Writing) (status : Status) → MakeEnd n out disk status → (status ≡ Done) ⊎ IsFault status
+make_decided n out disk status (inl none) = inr (subst IsFault (sym none.0) tt)
+make_decided n out disk status (inr made) = written_decided out disk (script_text (made_script n)) (image_of made_volume) status made
+
 -- ---- no command ends as one for which no words ask
 
 refused_is_command : (image text : Reading) → RefusesReplay image text Usage → ⊥
 refused_is_command image text (inl refused) = refused.0
 refused_is_command image text (inr refused) = refused.2
 
-pub replay_is_command : (around : Around) (outcome : Outcome) → ReplayEnd around outcome → outcome.status ≡ Usage → ⊥
+pub replay_is_command : (around : ReplayAround) (outcome : Outcome) → ReplayEnd around outcome → outcome.status ≡ Usage → ⊥
 replay_is_command around outcome (inl none) usage =
     refused_is_command around.image around.script (subst (RefusesReplay around.image around.script) usage none.refused)
 replay_is_command around outcome (inr run) usage =
-    let there : ⊥ = subst (RunWritten around.out around.disk run.report run.left) usage run.written in there
+    let there : ⊥ = subst (TextAndImageWritten around.out around.disk run.report run.left) usage run.written in there
 
 pub check_is_command : (image : Reading) (out : Writing) (status : Status) → CheckEnd image out status → status ≡ Usage → ⊥
 check_is_command image out status (inl none) usage = let there : ⊥ = subst (RefusesImage image) usage none.0 in there
 check_is_command image out status (inr told) usage = let there : ⊥ = subst (LineWritten out (check_line told.0)) usage told.2 in there
+
+pub make_is_command : (n : ℕ) (out disk : Writing) (status : Status) → MakeEnd n out disk status → status ≡ Usage → ⊥
+make_is_command n out disk status (inl none) usage = let there : OutOfMemory ≡ Usage = sym none.0 ∙ usage in cc
+make_is_command n out disk status (inr made) usage =
+    let there : ⊥ = subst (TextAndImageWritten out disk (script_text (made_script n)) (image_of made_volume)) usage made in there

@@ -4,10 +4,13 @@ use Rattle.bd_base.specs.declared.limits.TheConstants.{IMAGE_SIZE, SCRIPT_SIZE}
 use Rattle.bd_base.specs.declared.script.Script.{Script}
 use Rattle.bd_base.specs.declared.volume.Volume.{Volume}
 use Rattle.bd_image.specs.Rules.{Accepted, Broken}
-use Rattle.bd_image.specs.Volumes.{volume_of}
+use Rattle.bd_gen.specs.Script.{made_script}
+use Rattle.bd_gen.specs.Volume.{made_volume}
+use Rattle.bd_image.specs.Volumes.{image_of, volume_of}
 use Rattle.bd_machine.specs.Refusals.{IsNotSimple}
 use Rattle.bd_machine.specs.Simple.{IsSimpleText}
-use Rattle.bd_outside.specs.Around.{Left, ReadAtMost, ReadNothing, Reading, WriteFailed, Writing, Wrote, WroteNothing, WrotePrefix}
+use Rattle.bd_script.specs.Texts.{script_text}
+use Rattle.bd_outside.specs.Around.{Left, ReadAtMost, Reading, WriteFailed, Writing, Wrote, WroteNothing, WrotePrefix}
 use Rattle.bd_top.specs.declared.status.Outcome.{Outcome}
 use Rattle.bd_top.specs.declared.status.Status.{Status}
 use Rattle.bd_top.specs.declared.status.Status.TheVariants.{Done, ReadFault, WriteFault, BadImage, BadScript, OutOfMemory}
@@ -15,10 +18,9 @@ use Rattle.bd_top.specs.declared.status.To.TheVariants.{Out, Disk}
 use Rattle.bd_top.specs.CheckLine.{check_line}
 use Rattle.bd_top.specs.Inputs.{IsImageRead, RefusesImage, RefusesReplay}
 use Rattle.bd_top.specs.Runs.{IsReplay}
-use Rattle.bd_top.specs.Words.{Request, check_of, replay_of}
 
--- the sources and sinks of a command around the call
-pub record Around : Type 0 where
+-- the sources and sinks of a replay around the call
+pub record ReplayAround : Type 0 where
   pub image : Reading
   pub script : Reading
   pub out : Writing
@@ -40,33 +42,35 @@ pub record NoRun (outcome : Outcome) : Type 0 where
   pub no_journal : outcome.journal ≡ []
   pub no_trace : outcome.trace ≡ []
 
+-- ---- a text and an image
+
+-- how far a text and then an image were written: nothing goes to disk before the whole text is out
+abbrev pub TextAndImageWritten : Writing → Writing → List ℕ → List ℕ → Status → Type 0
+TextAndImageWritten out disk text image Done = Wrote out text × Wrote disk image
+TextAndImageWritten out disk text image (WriteFault Out) = WriteFailed out × WrotePrefix out text × WroteNothing disk
+TextAndImageWritten out disk text image (WriteFault Disk) = WriteFailed disk × Wrote out text × WrotePrefix disk image
+TextAndImageWritten out disk text image OutOfMemory =
+    (WrotePrefix out text × WroteNothing disk) ⊎ (Wrote out text × WrotePrefix disk image)
+TextAndImageWritten out disk text image status = ⊥
+
 -- ---- replay
 
--- how far the report and then the image were written: nothing goes to disk before the whole report is out
-abbrev pub RunWritten : Writing → Writing → List ℕ → List ℕ → Status → Type 0
-RunWritten out disk report left Done = Wrote out report × Wrote disk left
-RunWritten out disk report left (WriteFault Out) = WriteFailed out × WrotePrefix out report × WroteNothing disk
-RunWritten out disk report left (WriteFault Disk) = WriteFailed disk × Wrote out report × WrotePrefix disk left
-RunWritten out disk report left OutOfMemory =
-    (WrotePrefix out report × WroteNothing disk) ⊎ (Wrote out report × WrotePrefix disk left)
-RunWritten out disk report left status = ⊥
-
 -- a replay was refused, and nothing was done
-pub record ReplayRefused (around : Around) (outcome : Outcome) : Type 0 where
+pub record ReplayRefused (around : ReplayAround) (outcome : Outcome) : Type 0 where
   pub refused : RefusesReplay around.image around.script outcome.status
   pub no_run : NoRun outcome
   pub out_same : WroteNothing around.out
   pub disk_same : WroteNothing around.disk
 
 -- a run was made, and its report and the image that it left were written so far
-pub record ReplayRan (around : Around) (outcome : Outcome) : Type 0 where
+pub record ReplayRan (around : ReplayAround) (outcome : Outcome) : Type 0 where
   pub report : List ℕ
   pub left : List ℕ
   pub run : IsReplay around.image around.script outcome.journal outcome.trace report left
-  pub written : RunWritten around.out around.disk report left outcome.status
+  pub written : TextAndImageWritten around.out around.disk report left outcome.status
 
 -- what stands behind the end of a replay
-abbrev pub ReplayEnd : Around → Outcome → Type 0
+abbrev pub ReplayEnd : ReplayAround → Outcome → Type 0
 ReplayEnd around outcome = ReplayRefused around outcome ⊎ ReplayRan around outcome
 
 -- the status to which an image and a script lead
@@ -79,7 +83,7 @@ LeadReplayTo image text Done =
 LeadReplayTo image text status = ⊥
 
 -- what `replay` promises
-pub record Replays (around : Around) (outcome : Outcome) : Type 0 where
+pub record Replays (around : ReplayAround) (outcome : Outcome) : Type 0 where
   pub end : ReplayEnd around outcome
   pub decided : Decide (LeadReplayTo around.image around.script) outcome.status
   pub image_taken : ReadAtMost (IMAGE_SIZE + 1) around.image
@@ -114,25 +118,16 @@ pub record Checks (image : Reading) (out : Writing) (status : Status) : Type 0 w
   pub decided : Decide (LeadCheckTo image) status
   pub image_taken : ReadAtMost (IMAGE_SIZE + 1) image
 
--- ---- all commands
+-- ---- make
 
--- no script was read, nothing went to disk, and there is no run
-pub record OnlyChecks (around : Around) (outcome : Outcome) : Type 0 where
-  pub checks : Checks around.image around.out outcome.status
-  pub script_same : ReadNothing around.script
-  pub disk_same : WroteNothing around.disk
-  pub no_run : NoRun outcome
+-- what stands behind the end of a making: no memory was found and nothing written, or the text of the script and the
+-- image were made and written so far
+abbrev pub MakeEnd : ℕ → Writing → Writing → Status → Type 0
+MakeEnd n out disk status =
+    ((status ≡ OutOfMemory) × WroteNothing out × WroteNothing disk)
+    ⊎ TextAndImageWritten out disk (script_text (made_script n)) (image_of made_volume) status
 
--- nothing was read, written or run
-pub record DoesNothing (around : Around) (outcome : Outcome) : Type 0 where
-  pub image_same : ReadNothing around.image
-  pub script_same : ReadNothing around.script
-  pub out_same : WroteNothing around.out
-  pub disk_same : WroteNothing around.disk
-  pub no_run : NoRun outcome
-
--- what was asked for was done, as that command promises it; where nothing was asked for, nothing was done
-abbrev pub Does : Option Request → Around → Outcome → Type 0
-Does None around outcome = DoesNothing around outcome
-Does (Some (replay_of image script out)) around outcome = Replays around outcome
-Does (Some (check_of image)) around outcome = OnlyChecks around outcome
+-- what `make` promises
+pub record Makes (n : ℕ) (out disk : Writing) (status : Status) : Type 0 where
+  pub end : MakeEnd n out disk status
+  pub decided : (status ≡ Done) ⊎ IsFault status

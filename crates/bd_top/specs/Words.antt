@@ -1,25 +1,56 @@
 -- What the words of the command line say.
-use Rattle.std.specs.Prelude.{ℕ, Bool, false, not, ◌&&◌, nat_eq, cond, List, [], ◌∷◌, Option, None, Some, codes, map, String, string_bytes}
+use Rattle.std.specs.Prelude.{ℕ, ◌-◌, ◌^◌, Bool, false, not, ◌&&◌, nat_eq, nat_lt, cond, List, [], ◌∷◌, Option, None, Some, codes, map, String, string_bytes}
+use Rattle.std.specs.Int.Digits.{number_from_digits}
+use Rattle.std.specs.Option.{option_map}
 use Rattle.std.specs.declared.alloc.Global.{Global}
 use Rattle.std.specs.Str.{bytes_eq}
+use Rattle.bd_blocks.specs.Texts.{number_text}
 use Rattle.bd_top.specs.declared.words.Command.{Command}
-use Rattle.bd_top.specs.declared.words.Command.TheVariants.{Check, Replay}
+use Rattle.bd_top.specs.declared.words.Command.TheVariants.{Check, Make, Replay, Verify}
 
--- what words ask for: a command, and the paths of its files
+-- what words ask for: a command, the paths of its files, and the number from which an image and a script are made
 pub data Request : Type 0 where
   replay_of : (image script out : List ℕ) → Request
+  verify_of : (image script journal : List ℕ) → Request
   check_of : (image : List ℕ) → Request
+  make_of : (n : ℕ) (image script : List ℕ) → Request
 
 -- whether a word may name a file: it is not empty and does not begin with a dash
 abbrev pub is_path : List ℕ → Bool
 is_path [] = false
 is_path (c ∷ word) = not (nat_eq c 45)
 
--- what the words ask for: `replay` with three paths, `check` with one, or nothing
+-- the number that stands there in decimal digits
+unfoldable pub number_spelled : List ℕ → ℕ
+number_spelled word = number_from_digits 10 (map (λ digit. digit - 48) word)
+
+-- the number of at most 64 bits of which the word is the one text
+unfoldable pub number_in : List ℕ → Option ℕ
+number_in word =
+    cond (bytes_eq word (number_text (number_spelled word)) && nat_lt (number_spelled word) (2 ^ 64))
+    (Some (number_spelled word)) None
+
+-- what `replay` with these words asks for: all three are paths
+abbrev pub replay_request : (image script out : List ℕ) → Option Request
+replay_request image script out =
+    cond (is_path image && (is_path script && is_path out)) (Some (replay_of image script out)) None
+
+-- what `verify` with these words asks for: all three are paths
+abbrev pub verify_request : (image script journal : List ℕ) → Option Request
+verify_request image script journal =
+    cond (is_path image && (is_path script && is_path journal)) (Some (verify_of image script journal)) None
+
+-- what `make` with these words asks for: a number and two paths
+abbrev pub make_request : (number image script : List ℕ) → Option Request
+make_request number image script =
+    cond (is_path image && is_path script) (option_map (λ n. make_of n image script) (number_in number)) None
+
+-- what the words ask for: `replay`, `verify` or `make` with three more words, `check` with one, or nothing
 abbrev pub request_in : List (List ℕ) → Option Request
-request_in (command ∷ image ∷ script ∷ out ∷ []) =
-    cond (bytes_eq command (codes "replay") && (is_path image && (is_path script && is_path out)))
-    (Some (replay_of image script out)) None
+request_in (command ∷ first ∷ second ∷ third ∷ []) =
+    cond (bytes_eq command (codes "replay")) (replay_request first second third)
+    (cond (bytes_eq command (codes "verify")) (verify_request first second third)
+    (cond (bytes_eq command (codes "make")) (make_request first second third) None))
 request_in (command ∷ image ∷ []) =
     cond (bytes_eq command (codes "check") && is_path image) (Some (check_of image)) None
 request_in words = None
@@ -31,4 +62,6 @@ request_of words = request_in (map string_bytes words)
 -- what a command asks for, with the paths that it carries
 abbrev pub asked_by : Command → Request
 asked_by (Replay image script out) = replay_of image.now script.now out.now
+asked_by (Verify image script journal) = verify_of image.now script.now journal.now
 asked_by (Check image) = check_of image.now
+asked_by (Make n image script) = make_of n image.now script.now

@@ -88,7 +88,7 @@ fn read_and_tell<I: Source>(alloc: Global, image: &mut I) -> Result<Bytes, Statu
 }
 
 /// Writes the line. It takes no allocator: the line is made before.
-fn write_line<O: Sink>(out: &mut O, line: &[u8]) -> Status
+pub(crate) fn write_line<O: Sink>(out: &mut O, line: &[u8]) -> Status
     ensures { LineWritten (writing O.Sink out.old out.new) line.now result }
 {
     match write_all(out, line) {

@@ -3,17 +3,22 @@
 
 mod check;
 mod inputs;
+mod make;
 mod program;
 mod replay;
 mod report;
 mod status;
+mod verify;
 mod words;
+mod writes;
 
 pub use bd_outside::{ReadSource, WriteSink};
 pub use check::check_all;
+pub use make::make_all;
 pub use program::top;
 pub use replay::replay_all;
 pub use status::{Outcome, Status, To, Which, code, fault_text};
+pub use verify::verify_all;
 pub use words::{Command, read_words};
 
 #[cfg(test)]

@@ -5,19 +5,20 @@ ghost use Rattle.bd_base.specs.Scripts.{IsWithinLimits};
 ghost use Rattle.bd_image.specs.Volumes.{AcceptedVolume};
 ghost use Rattle.bd_machine.specs.Simple.{IsSimple};
 ghost use Rattle.bd_outside.specs.Around.{ReadAtMost, reading, writing};
-ghost use Rattle.bd_top.specs.Ends.{Around, Replays, RunWritten};
+ghost use Rattle.bd_top.specs.Ends.{ReplayAround, Replays};
 ghost use Rattle.bd_top.specs.Inputs.{RefusesReplay};
 ghost use Rattle.bd_top.specs.Runs.{IsReplay, IsRun};
 
 use crate::inputs::{read_image, read_script};
 use crate::report::report;
-use crate::status::{Outcome, Status, To, without_run};
+use crate::status::{Outcome, Status, without_run};
+use crate::writes::write_both;
 use bd_base::{Bytes, OutOfMemory, Script, Volume};
 use bd_entry::EntryList;
 use bd_entry::laws::histories_keep_valid;
 use bd_image::{one_refusal, refused_is_not_accepted, render, sound_volumes};
 use bd_machine::{EventList, replay};
-use bd_outside::{Sink, Source, WriteError, write_all};
+use bd_outside::{Sink, Source};
 use std::alloc::Global;
 
 /// A run: its history, and what is to be written.
@@ -48,23 +49,6 @@ fn run_script(alloc: Global, volume: Volume, script: Script) -> Result<WholeRun,
         report,
         image,
     })
-}
-
-/// Writes the report, and then the image. It takes no allocator: both are made before.
-fn write_run<O: Sink, D: Sink>(out: &mut O, disk: &mut D, report: &[u8], image: &[u8]) -> Status
-    ensures { RunWritten (writing O.Sink out.old out.new) (writing D.Sink disk.old disk.new)
-        report.now image.now result }
-{
-    match write_all(out, report) {
-        Ok(()) => {}
-        Err(WriteError::Fault) => return Status::WriteFault(To::Out),
-        Err(WriteError::OutOfMemory) => return Status::OutOfMemory,
-    }
-    match write_all(disk, image) {
-        Ok(()) => Status::Done,
-        Err(WriteError::Fault) => Status::WriteFault(To::Disk),
-        Err(WriteError::OutOfMemory) => Status::OutOfMemory,
-    }
 }
 
 /// Reads the image and the script, and makes the run with its report and its image. It takes no
@@ -103,7 +87,7 @@ pub fn replay_all<I: Source, S: Source, O: Sink, D: Sink>(
     out: &mut O,
     disk: &mut D,
 ) -> Outcome
-    ensures { let around : Around = record {
+    ensures { let around : ReplayAround = record {
       image = reading I.Source image.old image.new;
       script = reading S.Source script.old script.new;
       out = writing O.Sink out.old out.new;
@@ -114,7 +98,7 @@ pub fn replay_all<I: Source, S: Source, O: Sink, D: Sink>(
     one_refusal();
     match read_and_run(alloc, image, script) {
         Ok(run) => {
-            let status = write_run(out, disk, run.report.as_slice(), run.image.as_slice());
+            let status = write_both(out, disk, run.report.as_slice(), run.image.as_slice());
             Outcome {
                 status,
                 journal: run.journal,

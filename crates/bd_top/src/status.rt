@@ -1,8 +1,8 @@
 //! How a command ends, the exit code of each end, and its line of text.
 ghost use Rattle.std.specs.Prelude.{◌≡◌, [], ◌++◌, IfOk, OnOk};
-ghost use Rattle.bd_top.specs.Status.{bad_image_text, bad_script_text, code_of, fault_text_of};
+ghost use Rattle.bd_top.specs.Status.{bad_image_text, bad_journal_text, bad_script_text, code_of, fault_text_of, not_legal_text, unfinished_text};
 
-use bd_base::{Bytes, List, OutOfMemory};
+use bd_base::{Bytes, List, OutOfMemory, Pid};
 use bd_blocks::text::{push_bytes, push_number};
 use bd_entry::EntryList;
 use bd_machine::EventList;
@@ -13,6 +13,7 @@ use std::alloc::Global;
 pub enum Which {
     Image,
     Script,
+    Journal,
 }
 
 /// A sink that a command writes to.
@@ -39,6 +40,12 @@ pub enum Status {
     BadScript { line: u64, rule: u8 },
     /// No memory was found; what went out is a prefix.
     OutOfMemory,
+    /// This line of the journal's text, from 1, has no reading; 0 where the text is too long.
+    BadJournal { line: u64 },
+    /// This entry of the journal, from 0, breaks this rule, the least (docs/MACHINE.md).
+    NotLegal { entry: u64, rule: u8 },
+    /// This call of this process is not finished in the journal.
+    Unfinished { process: Pid, call: u16 },
 }
 
 /// A status, and the journal and the trace of the run where there was one.
@@ -74,6 +81,9 @@ pub fn code(status: &Status) -> u8
         Status::BadImage { .. } => 5,
         Status::BadScript { .. } => 6,
         Status::OutOfMemory => 7,
+        Status::BadJournal { .. } => 8,
+        Status::NotLegal { .. } => 9,
+        Status::Unfinished { .. } => 10,
     }
 }
 
@@ -87,11 +97,15 @@ pub fn fault_text(alloc: Global, status: &Status) -> Result<Bytes, OutOfMemory>
         Status::Usage => push_bytes(&mut text, b"bypassd: usage")?,
         Status::ReadFault(Which::Image) => push_bytes(&mut text, b"bypassd: read fault: image")?,
         Status::ReadFault(Which::Script) => push_bytes(&mut text, b"bypassd: read fault: script")?,
+        Status::ReadFault(Which::Journal) => push_bytes(&mut text, b"bypassd: read fault: journal")?,
         Status::WriteFault(To::Out) => push_bytes(&mut text, b"bypassd: write fault: out")?,
         Status::WriteFault(To::Disk) => push_bytes(&mut text, b"bypassd: write fault: disk")?,
         Status::BadImage { rule, place } => push_bad_image(&mut text, *rule, *place)?,
         Status::BadScript { line, rule } => push_bad_script(&mut text, *line, *rule)?,
         Status::OutOfMemory => push_bytes(&mut text, b"bypassd: out of memory")?,
+        Status::BadJournal { line } => push_bad_journal(&mut text, *line)?,
+        Status::NotLegal { entry, rule } => push_not_legal(&mut text, *entry, *rule)?,
+        Status::Unfinished { process, call } => push_unfinished(&mut text, *process, *call)?,
     }
     Ok(List::from_vec(text))
 }
@@ -115,5 +129,36 @@ fn push_bad_script(text: &mut Vec<u8>, line: u64, rule: u8) -> Result<(), OutOfM
     push_number(text, u64::from(rule))?;
     push_bytes(text, b" at line ")?;
     push_number(text, line)?;
+    Ok(())
+}
+
+/// Appends the line of a bad journal.
+fn push_bad_journal(text: &mut Vec<u8>, line: u64) -> Result<(), OutOfMemory>
+    ensures { OnOk result (text.new.items ≡ text.old.items ++ bad_journal_text line) }
+{
+    push_bytes(text, b"bypassd: bad journal: line ")?;
+    push_number(text, line)?;
+    Ok(())
+}
+
+/// Appends the line of an entry that is not legal.
+fn push_not_legal(text: &mut Vec<u8>, entry: u64, rule: u8) -> Result<(), OutOfMemory>
+    ensures { OnOk result (text.new.items ≡ text.old.items ++ not_legal_text entry rule) }
+{
+    push_bytes(text, b"bypassd: not legal: entry ")?;
+    push_number(text, entry)?;
+    push_bytes(text, b" rule ")?;
+    push_number(text, u64::from(rule))?;
+    Ok(())
+}
+
+/// Appends the line of an unfinished call.
+fn push_unfinished(text: &mut Vec<u8>, process: Pid, call: u16) -> Result<(), OutOfMemory>
+    ensures { OnOk result (text.new.items ≡ text.old.items ++ unfinished_text process call) }
+{
+    push_bytes(text, b"bypassd: unfinished: process ")?;
+    push_number(text, process.get())?;
+    push_bytes(text, b" call ")?;
+    push_number(text, u64::from(call))?;
     Ok(())
 }

@@ -1,8 +1,11 @@
 //! Whole commands from sources to sinks.
 mod checks;
 mod faults;
+mod makes;
+mod readings;
 mod refusals;
 mod runs;
+mod verdicts;
 
 use crate::{Outcome, Status, top};
 use bd_base::{Bytes, List};
@@ -74,6 +77,7 @@ fn fails_of(alloc: Global, call: Option<u64>) -> Result<NumberList, AllocError> 
 struct Plan {
     image: Option<u64>,
     script: Option<u64>,
+    journal: Option<u64>,
     out: Option<u64>,
     disk: Option<u64>,
 }
@@ -82,6 +86,7 @@ struct Plan {
 const SURE: Plan = Plan {
     image: None,
     script: None,
+    journal: None,
     out: None,
     disk: None,
 };
@@ -94,19 +99,33 @@ struct Left {
     disk: MemSink,
 }
 
-/// Runs a command: an image is read and written in pieces of at most 40,960 bytes, a script in
-/// pieces of 20 and a report in pieces of 40.
-fn command(
+/// What a command is given to read.
+#[derive(Drop)]
+struct Inputs<'a> {
+    image: Vec<u8>,
+    script: &'a str,
+    journal: &'a str,
+}
+
+/// Runs a command on all its inputs: an image is read and written in pieces of at most 40,960 bytes,
+/// a script and a journal in pieces of 20 and a report in pieces of 40.
+fn command_on(
     alloc: Global,
     texts: &[&str],
-    image: Vec<u8>,
-    script: &str,
+    inputs: Inputs<'_>,
     plan: Plan,
 ) -> Result<Left, Fail> {
     let words = words(alloc, texts)?;
-    let image = List::from_vec(image);
-    let mut image = MemSource::new(image, 40_960, fails_of(alloc, plan.image)?);
-    let mut script = MemSource::new(bytes(alloc, script)?, 20, fails_of(alloc, plan.script)?);
+    let Inputs {
+        image,
+        script,
+        journal,
+    } = inputs;
+    let script = bytes(alloc, script)?;
+    let journal = bytes(alloc, journal)?;
+    let mut image = MemSource::new(List::from_vec(image), 40_960, fails_of(alloc, plan.image)?);
+    let mut script = MemSource::new(script, 20, fails_of(alloc, plan.script)?);
+    let mut journal = MemSource::new(journal, 20, fails_of(alloc, plan.journal)?);
     let mut out = MemSink::new(alloc, 40, fails_of(alloc, plan.out)?);
     let mut disk = MemSink::new(alloc, 40_960, fails_of(alloc, plan.disk)?);
     let outcome = top(
@@ -114,10 +133,27 @@ fn command(
         words.as_slice(),
         &mut image,
         &mut script,
+        &mut journal,
         &mut out,
         &mut disk,
     );
     Ok(Left { outcome, out, disk })
+}
+
+/// Runs a command that reads no journal.
+fn command(
+    alloc: Global,
+    texts: &[&str],
+    image: Vec<u8>,
+    script: &str,
+    plan: Plan,
+) -> Result<Left, Fail> {
+    let inputs = Inputs {
+        image,
+        script,
+        journal: "",
+    };
+    command_on(alloc, texts, inputs, plan)
 }
 
 /// Replays a script over an image.

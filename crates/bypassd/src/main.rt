@@ -26,10 +26,12 @@ fn words_of(rt: &HostRuntime) -> Result<Vec<String>, Status> {
     Ok(words)
 }
 
-/// Replays the script at one path over the image at another, and writes the image to a third.
+/// Replays the script at one path over the image at another, and writes the image to a third. A
+/// replay reads no journal.
 fn run_replay(rt: &HostRuntime, words: &[String], image: &str, script: &str, out: &str) -> Status {
     let mut image = ReadSource::new(InputFile::new(rt, image));
     let mut script = ReadSource::new(InputFile::new(rt, script));
+    let mut no_journal = ReadSource::new(empty());
     let mut report = WriteSink::new(rt.stdout());
     let mut disk = WriteSink::new(OutputFile::new(rt, out));
     top(
@@ -37,16 +39,44 @@ fn run_replay(rt: &HostRuntime, words: &[String], image: &str, script: &str, out
         words,
         &mut image,
         &mut script,
+        &mut no_journal,
         &mut report,
         &mut disk,
     )
     .status
 }
 
-/// Checks the image at a path. A check reads no script and writes no image.
+/// Verifies the journal at one path by the script at another over the image at a third. A
+/// verification writes no image.
+fn run_verify(
+    rt: &HostRuntime,
+    words: &[String],
+    image: &str,
+    script: &str,
+    journal: &str,
+) -> Status {
+    let mut image = ReadSource::new(InputFile::new(rt, image));
+    let mut script = ReadSource::new(InputFile::new(rt, script));
+    let mut journal = ReadSource::new(InputFile::new(rt, journal));
+    let mut line = WriteSink::new(rt.stdout());
+    let mut no_disk = WriteSink::new(sink());
+    top(
+        rt.alloc(),
+        words,
+        &mut image,
+        &mut script,
+        &mut journal,
+        &mut line,
+        &mut no_disk,
+    )
+    .status
+}
+
+/// Checks the image at a path. A check reads no script and no journal, and writes no image.
 fn run_check(rt: &HostRuntime, words: &[String], image: &str) -> Status {
     let mut image = ReadSource::new(InputFile::new(rt, image));
     let mut no_script = ReadSource::new(empty());
+    let mut no_journal = ReadSource::new(empty());
     let mut line = WriteSink::new(rt.stdout());
     let mut no_disk = WriteSink::new(sink());
     top(
@@ -54,8 +84,28 @@ fn run_check(rt: &HostRuntime, words: &[String], image: &str) -> Status {
         words,
         &mut image,
         &mut no_script,
+        &mut no_journal,
         &mut line,
         &mut no_disk,
+    )
+    .status
+}
+
+/// Makes an image and a script, and writes them to two paths. A making reads nothing.
+fn run_make(rt: &HostRuntime, words: &[String], image: &str, script: &str) -> Status {
+    let mut no_image = ReadSource::new(empty());
+    let mut no_script = ReadSource::new(empty());
+    let mut no_journal = ReadSource::new(empty());
+    let mut text = WriteSink::new(OutputFile::new(rt, script));
+    let mut disk = WriteSink::new(OutputFile::new(rt, image));
+    top(
+        rt.alloc(),
+        words,
+        &mut no_image,
+        &mut no_script,
+        &mut no_journal,
+        &mut text,
+        &mut disk,
     )
     .status
 }
@@ -64,7 +114,13 @@ fn run_check(rt: &HostRuntime, words: &[String], image: &str) -> Status {
 fn run(rt: &HostRuntime, words: &[String]) -> Status {
     match read_words(words) {
         Some(Command::Replay { image, script, out }) => run_replay(rt, words, image, script, out),
+        Some(Command::Verify {
+            image,
+            script,
+            journal,
+        }) => run_verify(rt, words, image, script, journal),
         Some(Command::Check { image }) => run_check(rt, words, image),
+        Some(Command::Make { image, script, .. }) => run_make(rt, words, image, script),
         None => Status::Usage,
     }
 }

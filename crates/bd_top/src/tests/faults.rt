@@ -78,6 +78,7 @@ fn each_write_of_the_image_may_fail(rt: HostRuntime) -> Result<(), Fail> {
 const PAST_THE_LAST: Plan = Plan {
     image: Some(3),
     script: Some(4),
+    journal: Some(0),
     out: Some(3),
     disk: Some(2),
 };

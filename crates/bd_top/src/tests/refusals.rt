@@ -19,7 +19,7 @@ fn says_nothing(rt: &(impl Abort + AllocGlobal), line: &str) -> Result<(), Fail>
 }
 
 /// Lines of words that say no command.
-const NO_COMMAND: [&str; 13] = [
+const NO_COMMAND: [&str; 34] = [
     "\"\"",
     "replay",
     "replay image script",
@@ -28,11 +28,32 @@ const NO_COMMAND: [&str; 13] = [
     "replay image script \"\"",
     "replay image -script out",
     "Replay image script out",
+    "verify",
+    "verify image script",
+    "verify image script journal more",
+    "verify -image script journal",
+    "verify image \"\" journal",
+    "verify image script --journal",
+    "verify --journal image script journal",
+    "run image script out",
     "check image script out",
     "check image --journal",
     "check -",
     "check \"\"",
     "--journal image",
+    "make",
+    "make 7",
+    "make 7 image",
+    "make 7 image script more",
+    "make \"\" image script",
+    "make 07 image script",
+    "make +7 image script",
+    "make 7x image script",
+    "make 18446744073709551616 image script",
+    "make image 7 script",
+    "make 7 -image script",
+    "make 7 image \"\"",
+    "make 7 image --script",
 ];
 
 #[test]
@@ -55,8 +76,25 @@ fn reads_words_that_say_a_command(rt: HostRuntime) -> Result<(), Fail> {
         out: "o-",
     };
     assert!(&rt; read_words(replay.as_slice()) == Some(want));
+    let verify = words(rt.alloc(), ["verify", "i", "verify", "j-"].as_slice())?;
+    let want = Command::Verify {
+        image: "i",
+        script: "verify",
+        journal: "j-",
+    };
+    assert!(&rt; read_words(verify.as_slice()) == Some(want));
     let check = words(rt.alloc(), ["check", "check"].as_slice())?;
     assert!(&rt; read_words(check.as_slice()) == Some(Command::Check { image: "check" }));
+    let make = words(
+        rt.alloc(),
+        ["make", "18446744073709551615", "7", "a"].as_slice(),
+    )?;
+    let want = Command::Make {
+        n: u64::MAX,
+        image: "7",
+        script: "a",
+    };
+    assert!(&rt; read_words(make.as_slice()) == Some(want));
     Ok(())
 }
 

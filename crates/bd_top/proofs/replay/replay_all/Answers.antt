@@ -1,7 +1,7 @@
 use Rattle.std.proofs.Common.{[], refl, inl, inr}
 use Rattle.bd_outside.specs.Around.{Reading, Writing, reading, writing}
 use Rattle.bd_top.specs.declared.status.Outcome.{Outcome}
-use Rattle.bd_top.specs.Ends.{Around, ReplayEnd}
+use Rattle.bd_top.specs.Ends.{ReplayAround, ReplayEnd}
 use Rattle.bd_top.proofs.Ends.{replay_decided}
 use Rattle.bd_top.proofs.replay.replay_all.Goals as goal
 
@@ -9,17 +9,17 @@ pub returns-in-Ok : goal.returns-in-Ok
 returns-in-Ok g c =
     let image : Reading = reading g.I.Source c.args.image.now c.read_and_run.new.image in
     let script : Reading = reading g.S.Source c.args.script.now c.read_and_run.new.script in
-    let out : Writing = writing g.O.Sink c.args.out.now c.write_run-status.new.out in
-    let disk : Writing = writing g.D.Sink c.args.disk.now c.write_run-status.new.disk in
-    let around : Around = record { image = image; script = script; out = out; disk = disk } in
+    let out : Writing = writing g.O.Sink c.args.out.now c.write_both-status.new.out in
+    let disk : Writing = writing g.D.Sink c.args.disk.now c.write_both-status.new.disk in
+    let around : ReplayAround = record { image = image; script = script; out = out; disk = disk } in
     let run = c.in-Ok.run' in
-    let outcome : Outcome = record { status = c.write_run-status.result; journal = run.journal; trace = run.trace } in
+    let outcome : Outcome = record { status = c.write_both-status.result; journal = run.journal; trace = run.trace } in
     let end : ReplayEnd around outcome =
     inr (record {
       report = run.report;
       left = run.image;
       run = c.in-Ok.ensures.ok;
-      written = rw (c.as_slice.ensures, c.as_slice-in-Ok.ensures) at c.write_run-status.ensures;
+      written = rw (c.as_slice.ensures, c.as_slice-in-Ok.ensures) at c.write_both-status.ensures;
     }) in
     record {
       end = end;
@@ -34,7 +34,7 @@ returns-in-Err g c =
     let script : Reading = reading g.S.Source c.args.script.now c.read_and_run.new.script in
     let out : Writing = writing g.O.Sink c.args.out.now c.args.out.now in
     let disk : Writing = writing g.D.Sink c.args.disk.now c.args.disk.now in
-    let around : Around = record { image = image; script = script; out = out; disk = disk } in
+    let around : ReplayAround = record { image = image; script = script; out = out; disk = disk } in
     let outcome : Outcome = record { status = c.in-Err.status; journal = []; trace = [] } in
     let end : ReplayEnd around outcome =
     inl (record {

@@ -1,0 +1,14 @@
+use Rattle.std.proofs.Common.{append_assoc}
+use Rattle.bd_top.proofs.status.push_unfinished.Goals as goal
+
+pub returns : goal.returns
+returns c =
+    rw (
+      c.in_ok-push_number-2.ensures,
+      c.from.ensures,
+      c.in_ok-push_bytes-2.ensures,
+      c.in_ok-push_number.ensures,
+      c.get.ensures.value,
+      c.in_ok-push_bytes.ensures,
+    )
+    (simp append_assoc)
