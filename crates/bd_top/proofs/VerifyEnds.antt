@@ -174,8 +174,8 @@ module _ (unique : OneJournal) (not_bad : BadIsNoJournal) (least : OneBadLine) (
   -- ---- the journal
 
   -- a journal that was judged
-  judged_decided : (v : Volume) (script : Script) (journal : Reading) (verdict : Verdict) (decided : Status) → IsJudged v script journal verdict → LeadJournalTo v script journal decided
-      → status_of verdict ≡ decided
+  judged_decided : (v : Volume) (script : Script) (journal : Reading) (verdict : Verdict) (decided : Status) → IsJudged v script journal verdict
+      → LeadJournalTo v script journal decided → status_of verdict ≡ decided
   judged_decided v script journal verdict (BadJournal line) (entries, read, on) lead =
       absurd (not_bad_text read.bytes entries line read.size read.has (subst (λ (j : List ℕ). IsBadText j line) (sym (read.read lead.0 lead.1).0) lead.2))
   judged_decided v script journal verdict (NotLegal entry rule) (entries, read, on) lead =
@@ -193,7 +193,8 @@ module _ (unique : OneJournal) (not_bad : BadIsNoJournal) (least : OneBadLine) (
   judged_decided v script journal verdict status judged lead = absurd lead
 
   -- a journal that has no reading
-  bad_decided : (v : Volume) (script : Script) (journal : Reading) (line : ℕ) (decided : Status) → IsJournalBad journal line → LeadJournalTo v script journal decided → BadJournal line ≡ decided
+  bad_decided : (v : Volume) (script : Script) (journal : Reading) (line : ℕ) (decided : Status) → IsJournalBad journal line
+      → LeadJournalTo v script journal decided → BadJournal line ≡ decided
   bad_decided v script journal line (BadJournal number) bad lead = ap BadJournal (one_bad_line lead.0 line number (journal_left journal line lead.0 bad lead.1) lead.2)
   bad_decided v script journal line (NotLegal entry rule) bad lead =
       absurd (not_bad_text lead.0 lead.2.1 line lead.2.0 lead.2.2 (journal_left journal line lead.0 bad lead.1))
@@ -237,7 +238,8 @@ module _ (unique : OneJournal) (not_bad : BadIsNoJournal) (least : OneBadLine) (
   -- ---- the image, and all of it
 
   -- an image that was read leads to its script
-  image_read : (image text journal : Reading) (v : Volume) (decided : Status) → IsImageRead image v → LeadImageTo image text journal decided → LeadScriptTo v text journal decided
+  image_read : (image text journal : Reading) (v : Volume) (decided : Status) → IsImageRead image v
+      → LeadImageTo image text journal decided → LeadScriptTo v text journal decided
   image_read image text journal v decided read (inl (rule, place, is, broken)) = absurd (not_broken not one image v rule place read broken)
   image_read image text journal v decided read (inr (b, left, (accepted, lead))) =
       subst (λ (w : Volume). LeadScriptTo w text journal decided) (sym (same_volume not one image v b read left)) lead

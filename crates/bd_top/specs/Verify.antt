@@ -108,7 +108,8 @@ pub record IsJournalBad (text : Reading) (line : ℕ) : Type 0 where
 -- the verdict on a journal, each exactly where it is so
 pub record IsVerdictOn (v : Volume) (script : Script) (journal : List Entry) (verdict : Verdict) : Type 0 where
   pub legal : (verdict ≡ verdicts.Legal) ↔ IsLegalInOrder v script journal
-  pub broken : (entry rule : ℕ) → (verdict ≡ verdicts.NotLegal entry rule) ↔ BreaksFirst v script journal entry rule
+  pub broken : (entry rule : ℕ) →
+      (verdict ≡ verdicts.NotLegal entry rule) ↔ BreaksFirst v script journal entry rule
   pub unfinished : (process call : ℕ) →
       (verdict ≡ verdicts.Unfinished process call) ↔ LacksEndOf v script journal process call
 

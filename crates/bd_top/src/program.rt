@@ -15,11 +15,12 @@ use std::alloc::Global;
 
 /// Runs the command that the words after the program's name say, on these sources and sinks.
 ///
-/// What the words ask for is done as that command promises it (`Does`, specs/Commands.antt). `replay`
-/// runs the script over the image, writes the report to `out`, and then the image as the run leaves
-/// it to `disk`. `check` writes one line that tells of the image to `out`. `make` reads nothing; it
-/// writes the text of the script that it makes to `out`, and then the image to `disk`. Where the
-/// words ask for nothing, the status is `Usage` and nothing is done.
+/// What the words ask for is done as that command promises it (`Does`, specs/Commands.antt).
+/// `replay` runs the script over the image, writes the report to `out`, and then the image as the run
+/// leaves it to `disk`. `verify` writes one line to `out` where the journal is a legal history of the
+/// image's files by the script's calls. `check` writes one line that tells of the image to `out`.
+/// `make` reads nothing; it writes the text of the script that it makes to `out`, and then the image
+/// to `disk`. Where the words ask for nothing, the status is `Usage` and nothing is done.
 pub fn top<I: Source, S: Source, J: Source, O: Sink, D: Sink>(
     alloc: Global,
     words: &[String],

@@ -97,7 +97,10 @@ pub fn fault_text(alloc: Global, status: &Status) -> Result<Bytes, OutOfMemory>
         Status::Usage => push_bytes(&mut text, b"bypassd: usage")?,
         Status::ReadFault(Which::Image) => push_bytes(&mut text, b"bypassd: read fault: image")?,
         Status::ReadFault(Which::Script) => push_bytes(&mut text, b"bypassd: read fault: script")?,
-        Status::ReadFault(Which::Journal) => push_bytes(&mut text, b"bypassd: read fault: journal")?,
+        Status::ReadFault(Which::Journal) => push_bytes(
+            &mut text,
+            b"bypassd: read fault: journal",
+        )?,
         Status::WriteFault(To::Out) => push_bytes(&mut text, b"bypassd: write fault: out")?,
         Status::WriteFault(To::Disk) => push_bytes(&mut text, b"bypassd: write fault: disk")?,
         Status::BadImage { rule, place } => push_bad_image(&mut text, *rule, *place)?,

@@ -109,12 +109,7 @@ struct Inputs<'a> {
 
 /// Runs a command on all its inputs: an image is read and written in pieces of at most 40,960 bytes,
 /// a script and a journal in pieces of 20 and a report in pieces of 40.
-fn command_on(
-    alloc: Global,
-    texts: &[&str],
-    inputs: Inputs<'_>,
-    plan: Plan,
-) -> Result<Left, Fail> {
+fn command_on(alloc: Global, texts: &[&str], inputs: Inputs<'_>, plan: Plan) -> Result<Left, Fail> {
     let words = words(alloc, texts)?;
     let Inputs {
         image,

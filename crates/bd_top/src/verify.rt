@@ -17,7 +17,8 @@ use crate::status::{Status, Which};
 use bd_base::{Bytes, Call, JOURNAL_SIZE, List, OutOfMemory, Process, SCRIPT_SIZE, Script, Volume};
 use bd_blocks::text::{LF, push_bytes, push_number};
 use bd_entry::{
-    EntryList, JournalError, after_report, bad_is_no_journal, one_bad_line, one_journal, read_journal,
+    EntryList, JournalError, after_report, bad_is_no_journal, one_bad_line, one_journal,
+    read_journal,
 };
 use bd_image::{one_refusal, refused_is_not_accepted, sound_volumes};
 use bd_outside::{ReadError, Sink, Source, read_all};
@@ -43,8 +44,8 @@ fn lines_in(text: &[u8]) -> u64
     if is_ended(text) { ended } else { ended + 1 }
 }
 
-/// The entries from the first line on that is the header of a journal; `BadJournal` counts lines from the first of the
-/// whole text.
+/// The entries from the first line on that is the header of a journal; `BadJournal` counts lines
+/// from the first of the whole text.
 fn journal_in(alloc: Global, text: &[u8]) -> Result<EntryList, JournalError>
     requires size { length text.now ≤ JOURNAL_SIZE }
     ensures ok { IfOk result (HasJournal text.now) }
@@ -159,7 +160,8 @@ fn fault_of(verdict: Verdict) -> Option<Status>
     }
 }
 
-/// Reads the image, the script and the journal, and finds the journal legal: the line that tells so. It takes no sink.
+/// Reads the image, the script and the journal, and finds the journal legal: the line that tells
+/// so. It takes no sink.
 fn read_and_judge<I: Source, S: Source, J: Source>(
     alloc: Global,
     image: &mut I,
@@ -173,7 +175,8 @@ fn read_and_judge<I: Source, S: Source, J: Source>(
         (reading S.Source script.old script.new) (reading J.Source journal.old journal.new)) }
     ensures image_taken { ReadAtMost (IMAGE_SIZE + 1) (reading I.Source image.old image.new) }
     ensures script_taken { ReadAtMost (SCRIPT_SIZE + 1) (reading S.Source script.old script.new) }
-    ensures journal_taken { ReadAtMost (JOURNAL_SIZE + 1) (reading J.Source journal.old journal.new) }
+    ensures journal_taken { ReadAtMost (JOURNAL_SIZE + 1)
+        (reading J.Source journal.old journal.new) }
 {
     let volume = read_image(alloc, image)?;
     let script = read_whole_script(alloc, script)?;
@@ -193,12 +196,13 @@ fn read_and_judge<I: Source, S: Source, J: Source>(
     }
 }
 
-/// Checks that a journal is one legal history of the files of an image by the calls of a script, and writes one line that
-/// tells how many calls and pieces the script has.
+/// Checks that a journal is one legal history of the files of an image by the calls of a script,
+/// and writes one line that tells how many calls and pieces the script has.
 ///
-/// What stands before the journal's first line is passed over. `BadJournal`, `NotLegal` and `Unfinished` tell the first
-/// line that has no reading, the first entry that breaks a rule, with the least rule, and the first unfinished call; then
-/// nothing is written. `Verifies` (specs/Verify.antt) tells what each status means.
+/// What stands before the journal's first line is passed over. `BadJournal`, `NotLegal` and
+/// `Unfinished` tell the first line that has no reading, the first entry that breaks a rule, with
+/// the least rule, and the first unfinished call; then nothing is written. `Verifies`
+/// (specs/Verify.antt) tells what each status means.
 pub fn verify_all<I: Source, S: Source, J: Source, O: Sink>(
     alloc: Global,
     image: &mut I,

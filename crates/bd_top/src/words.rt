@@ -70,7 +70,11 @@ fn read_replay<'a>(image: &'a String, script: &'a String, out: &'a String) -> Op
 }
 
 /// The command `verify` with these words, if they are paths.
-fn read_verify<'a>(image: &'a String, script: &'a String, journal: &'a String) -> Option<Command<'a>>
+fn read_verify<'a>(
+    image: &'a String,
+    script: &'a String,
+    journal: &'a String,
+) -> Option<Command<'a>>
     ensures { option_map asked_by result ≡ verify_request
         (string_bytes image.now) (string_bytes script.now) (string_bytes journal.now) }
 {

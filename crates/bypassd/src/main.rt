@@ -114,11 +114,13 @@ fn run_make(rt: &HostRuntime, words: &[String], image: &str, script: &str) -> St
 fn run(rt: &HostRuntime, words: &[String]) -> Status {
     match read_words(words) {
         Some(Command::Replay { image, script, out }) => run_replay(rt, words, image, script, out),
-        Some(Command::Verify {
-            image,
-            script,
-            journal,
-        }) => run_verify(rt, words, image, script, journal),
+        Some(
+            Command::Verify {
+                image,
+                script,
+                journal,
+            },
+        ) => run_verify(rt, words, image, script, journal),
         Some(Command::Check { image }) => run_check(rt, words, image),
         Some(Command::Make { image, script, .. }) => run_make(rt, words, image, script),
         None => Status::Usage,

@@ -39,11 +39,7 @@ fn is_legal(
 }
 
 /// Expects that the journal of the first read's script is refused so.
-fn is_refused_so(
-    rt: &(impl Abort + AllocGlobal),
-    journal: &str,
-    want: Status,
-) -> Result<(), Fail> {
+fn is_refused_so(rt: &(impl Abort + AllocGlobal), journal: &str, want: Status) -> Result<(), Fail> {
     let left = verified(rt.alloc(), SCRIPT, journal, SURE)?;
     is_refused(rt, &left, want);
     Ok(())
@@ -79,8 +75,13 @@ fn tells_what_is_wrong_with_a_journal(rt: HostRuntime) -> Result<(), Fail> {
     let process = Pid::new(0).ok_or("no process")?;
     is_refused_so(&rt, without, Status::Unfinished { process, call: 1 })?;
     let changed = format!(in rt.alloc();
-        "{without}0 1 access 0 0 0 0 3 0 5 read direct 69*1,65*1,6C*2,6F*1\n")?;
-    is_refused_so(&rt, changed.as_str(), Status::NotLegal { entry: 3, rule: 12 })
+        "{without}0 1 access 0 0 0 0 3 0 5 read direct 69*1,65*1,6C*2,6F*1\n"
+    )?;
+    is_refused_so(
+        &rt,
+        changed.as_str(),
+        Status::NotLegal { entry: 3, rule: 12 },
+    )
 }
 
 /// Texts that are no journals, and their first bad lines.
@@ -94,7 +95,10 @@ const BAD_TEXTS: [(&str, u64); 10] = [
     ("a\nb\nbypassd-journal 1\n0 0 mapped 0 1", 4),
     ("bypassd-journal 1\n0 0 mapped 0 1\n\n", 3),
     ("bypassd-journal 1\n0 0 mapped 0 18446744073709551616\n", 2),
-    ("bypassd-report 1\nbypassd-journal 1\nbypassd-journal 1\n", 3),
+    (
+        "bypassd-report 1\nbypassd-journal 1\nbypassd-journal 1\n",
+        3,
+    ),
 ];
 
 #[test]

@@ -31,8 +31,7 @@ returns-clause-ok g c =
     let found = c.in-Ok-check_journal.ensures in
     let on = subst (λ (j : List Entry). IsVerdictOn v script j verdict) c.as_slice.ensures
     (record { legal = found.legal; broken = found.broken; unfinished = found.unfinished }) in
-    let legal = subst (λ (w : Verdict). IsVerdictOn v script c.in_ok-entries.entries w) (no_fault verdict (sym c.in-None.ensures)) on in
-    (
+    let legal = subst (λ (w : Verdict). IsVerdictOn v script c.in_ok-entries.entries w) (no_fault verdict (sym c.in-None.ensures)) on in (
       script,
       record {
         volume = v;
