@@ -20,8 +20,8 @@ use Rattle.bd_entry.specs.Texts.{reason_text}
 use Rattle.bd_pieces.specs.Gathered.{gathered_bytes}
 use Rattle.bd_pieces.proofs.FirstParts.{first_bytes}
 use Rattle.bd_report.specs.Laws.{IsFirstRefusal, OtherCallsDoNotMatter, PiecesComeInAnyOrder, ReadsTellFirstPieces, WritesTellFirstRefusal}
-use Rattle.bd_report.specs.Replies.{answers_of, call_text, end_of, first_reason, parts_of, piece_reason, pieces_text, reply_text, told_text, wrote_text}
-use Rattle.bd_report.specs.Told.{ends_by_pieces}
+use Rattle.bd_report.specs.Replies.{answers_of, call_text, end_of, first_reason, parts_of, piece_reason, pieces_text, reply_text, ended_text, wrote_text}
+use Rattle.bd_report.specs.Notes.{ends_by_pieces}
 use Rattle.bd_report.proofs.Lines.{reply_of_call}
 
 -- ---- the entries of other calls
@@ -85,8 +85,8 @@ call_text-swap call front back e f i j by_pieces is_e is_f differ =
     let end : end_of call (front ++ e ∷ f ∷ back) ≡ end_of call (front ++ f ∷ e ∷ back) =
     find-swap (is_end_of call) front back e f
     (λ ends other. false≢true (sym (answers_end_none call e i by_pieces is_e) ∙ ends)) in
-    ap (λ (o : Option Entry). told_text call o (answers_of call (front ++ e ∷ f ∷ back))) end
-    ∙ ap (λ (answers : List (Option Entry)). told_text call (end_of call (front ++ f ∷ e ∷ back)) answers)
+    ap (λ (o : Option Entry). ended_text call o (answers_of call (front ++ e ∷ f ∷ back))) end
+    ∙ ap (λ (answers : List (Option Entry)). ended_text call (end_of call (front ++ f ∷ e ∷ back)) answers)
     (same_answers (range_with_len 0 (length (pieces_of_call call))))
   where
     same_answers : (numbers : List ℕ) →
@@ -157,12 +157,12 @@ by_pieces_text : (script : Script) (journal : List Entry) (at : At) (call : Call
     end_of call (entries_of at journal) ≡ None → reply_text script journal at ≡ pieces_text call (answers_of call (entries_of at journal))
 by_pieces_text script journal at call called none =
     reply_of_call script journal at call called
-    ∙ ap (λ (o : Option Entry). told_text call o (answers_of call (entries_of at journal))) none
+    ∙ ap (λ (o : Option Entry). ended_text call o (answers_of call (entries_of at journal))) none
 
 pub reads_tell_first_pieces : ReadsTellFirstPieces
 reads_tell_first_pieces script journal at fd off len called none = record {
   bytes = gathered_bytes (parts_of (pieces off len) (answers_of (Read fd off len) (entries_of at journal)));
-  told = by_pieces_text script journal at (Read fd off len) called none;
+  reply_is = by_pieces_text script journal at (Read fd off len) called none;
   first = first_bytes (parts_of (pieces off len) (answers_of (Read fd off len) (entries_of at journal)));
 }
 

@@ -23,7 +23,7 @@ use Rattle.bd_entry.proofs.Histories.{order_holds}
 use Rattle.bd_entry.proofs.HistoryLaws.{is_call}
 use Rattle.bd_entry.proofs.RangesOfPieces.{piece_of_call-is}
 use Rattle.bd_pieces.specs.declared.piece_list.TheConstants.{MOST_PIECES}
-use Rattle.bd_report.specs.Told.{AreFew, answered_piece}
+use Rattle.bd_report.specs.Notes.{AreFew, answered_piece}
 
 -- the entry is of a call of the script, and answers one of few pieces
 pub record IsNoted (script : Script) (entry : Entry) : Type 0 where

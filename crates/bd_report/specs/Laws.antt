@@ -12,7 +12,7 @@ use Rattle.bd_entry.specs.Texts.{reason_text}
 use Rattle.bd_pieces.specs.declared.gathering.PieceBytes.{PieceBytes}
 use Rattle.bd_pieces.specs.Gathered.{AreFirstBytes}
 use Rattle.bd_report.specs.Replies.{answers_of, end_of, parts_of, piece_reason, read_text, reply_text}
-use Rattle.bd_report.specs.Told.{ends_by_pieces}
+use Rattle.bd_report.specs.Notes.{ends_by_pieces}
 
 -- a journal without an entry of another call tells the same of this one
 abbrev pub OtherCallsDoNotMatter : Type 0
@@ -31,7 +31,7 @@ PiecesComeInAnyOrder =
 -- the reply is that of a read of these bytes, which are those of the first parts
 pub record TellsFirstOf (parts : List PieceBytes) (reply : List ℕ) : Type 0 where
   pub bytes : List ℕ
-  pub told : reply ≡ read_text bytes
+  pub reply_is : reply ≡ read_text bytes
   pub first : AreFirstBytes parts bytes
 
 -- a read that no entry ends alone tells the bytes of its first pieces

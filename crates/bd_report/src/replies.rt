@@ -8,9 +8,9 @@ ghost use Rattle.bd_entry.specs.declared.entry.Entry.{Entry};
 ghost use Rattle.bd_pieces.specs.Gathered.{gathered_bytes};
 ghost use Rattle.bd_pieces.specs.declared.piece_list.TheConstants.{MOST_PIECES};
 ghost use Rattle.bd_report.specs.Replies.{call_text, end_text, first_reason, given_bytes, mapped_text, ok_text, parts_of, piece_reason, pieces_text, read_text};
-ghost use Rattle.bd_report.specs.Told.{IsOfEnded, Tells, ends_by_pieces};
+ghost use Rattle.bd_report.specs.Notes.{IsOfEnded, AreNotesOf, ends_by_pieces};
 
-use crate::told::Told;
+use crate::notes::Notes;
 use bd_base::{Call, OutOfMemory, Reason};
 use bd_blocks::push_runs;
 use bd_blocks::text::{push_bytes, push_field, push_number, push_number_field};
@@ -135,8 +135,8 @@ fn push_pieces(
     requires limits { IsCall call.now }
     requires by_pieces { ends_by_pieces call.now ≡ true }
     requires room { length answers.now ≡ MOST_PIECES }
-    ensures { let told = take (length (pieces_of_call call.now)) answers.now in OnOk result
-        (text.new.items ≡ text.old.items ++ pieces_text call.now (map option_copied told)) }
+    ensures { let notes = take (length (pieces_of_call call.now)) answers.now in OnOk result
+        (text.new.items ≡ text.old.items ++ pieces_text call.now (map option_copied notes)) }
 {
     match call {
         Call::Read { off, len, .. } => {
@@ -157,14 +157,14 @@ fn push_pieces(
 }
 
 /// Appends the reply of a call that is finished.
-pub(crate) fn push_reply(text: &mut Vec<u8>, call: &Call, told: &Told) -> Result<(), OutOfMemory>
+pub(crate) fn push_reply(text: &mut Vec<u8>, call: &Call, notes: &Notes) -> Result<(), OutOfMemory>
     requires limits { IsCall call.now }
-    requires ended { IsOfEnded call.now told.now }
-    ensures { (entries : List Entry) → Tells call.now entries told.now →
+    requires ended { IsOfEnded call.now notes.now }
+    ensures { (entries : List Entry) → AreNotesOf call.now entries notes.now →
         OnOk result (text.new.items ≡ text.old.items ++ call_text call.now entries) }
 {
-    match told.end {
+    match notes.end {
         Some(end) => push_end(text, call, end),
-        None => push_pieces(text, call, &told.answers),
+        None => push_pieces(text, call, &notes.answers),
     }
 }
