@@ -17,7 +17,7 @@ use Rattle.bd_entry.specs.declared.entry.Entry.TheVariants.{Access, Refused}
 use Rattle.bd_entry.specs.Calls.{Place, at_of, call_at, calls_of, piece_of_call}
 use Rattle.bd_entry.specs.History.{InOrderSoFar}
 use Rattle.bd_entry.specs.Rules.{EntryRule, FitsCall, FitsScript, NextCall}
-use Rattle.bd_entry.specs.RulesOfCalls.{HasFieldsOf, IsNextCall, IsOfCall}
+use Rattle.bd_entry.specs.RulesOfCalls.{HasFieldsOf, IsNextCall}
 use Rattle.bd_entry.proofs.CallPieces.{All-slice_get}
 use Rattle.bd_entry.proofs.Histories.{order_holds}
 use Rattle.bd_entry.proofs.HistoryLaws.{is_call}

@@ -1,5 +1,4 @@
 -- What a report is made from.
-use Rattle.std.specs.Prelude.{List}
 use Rattle.bd_base.specs.Scripts.{IsWithinLimits}
 use Rattle.bd_entry.specs.History.{InOrder}
 use Rattle.bd_report.specs.declared.reporting.Basis.{Basis}

@@ -1,8 +1,7 @@
-use Rattle.std.proofs.Common.{◌≡◌, ◌+◌, ◌*◌, ◌<◌, true, ℕ, [], ◌∷◌, ◌++◌, List, Some, length, set, take, sym, ap, ◌∙◌, subst, arith, refl}
+use Rattle.std.proofs.Common.{◌≡◌, ◌+◌, ◌*◌, ◌<◌, ℕ, [], ◌∷◌, ◌++◌, List, Some, length, set, take, sym, ap, ◌∙◌, subst, arith, refl}
 use Rattle.std.specs.Prelude.{is_some, slice_get}
 use Rattle.std.proofs.lemmas.List.{take_more}
 use Rattle.std.proofs.lemmas.Option.{slice_get_read}
-use Rattle.bd_base.specs.declared.journal.At.{At}
 use Rattle.bd_base.specs.declared.limits.TheConstants.{CALLS}
 use Rattle.bd_base.specs.declared.script.Call.{Call}
 use Rattle.bd_entry.specs.Calls.{at_of, call_at}

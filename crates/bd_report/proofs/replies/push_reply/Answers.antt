@@ -1,8 +1,6 @@
-use Rattle.std.proofs.Common.{◌≡◌, ◌++◌, ℕ, List, None, length, map, take, ap, ◌∙◌}
+use Rattle.std.proofs.Common.{◌≡◌, ◌++◌, ℕ, List, None, ap, ◌∙◌}
 use Rattle.std.specs.Prelude.{OnOk}
 use Rattle.std.proofs.Common.{subst}
-use Rattle.std.specs.Option.{option_copied}
-use Rattle.bd_entry.specs.Calls.{pieces_of_call}
 use Rattle.bd_report.specs.Replies.{answers_of, ended_text}
 use Rattle.bd_report.proofs.Telling.{ended_by_pieces, noted_answers, ended_text-by_pieces}
 use Rattle.bd_report.proofs.replies.push_reply.Goals as goal

@@ -1,13 +1,11 @@
 use Rattle.std.specs.Prelude.{codes}
-use Rattle.std.proofs.Common.{◌≡◌, ◌≤◌, ℕ, [], ◌∷◌, ◌++◌, List, Some, length, append_assoc, sym, ap, ◌∙◌, subst, arith}
+use Rattle.std.proofs.Common.{◌≡◌, ℕ, [], ◌∷◌, ◌++◌, List, length, append_assoc, sym, ap, ◌∙◌, arith}
 use Rattle.std.specs.List.{flat_map, range_with_len}
-use Rattle.bd_base.specs.declared.script.Call.{Call}
-use Rattle.bd_base.specs.declared.script.Process.{Process}
 use Rattle.bd_blocks.specs.Texts.{before, number_text}
 use Rattle.bd_blocks.specs.declared.text.TheConstants.{LF}
 use Rattle.bd_entry.specs.Calls.{calls_of, entries_of}
 use Rattle.bd_entry.proofs.CallOrder.{numbered}
-use Rattle.bd_report.specs.Reports.{call_line, process_lines}
+use Rattle.bd_report.specs.Reports.{call_line}
 use Rattle.bd_report.proofs.Lines.{IsLineOf, calls_are, header, is_of_ended, line_at, lines_more, reply_of_call, stands}
 use Rattle.bd_report.proofs.reporting.push_process.Goals as goal
 

@@ -1,7 +1,6 @@
 use Rattle.std.proofs.Common.{◌≡◌, ◌++◌}
 use Rattle.std.specs.List.{flat_map, range_with_len}
 use Rattle.bd_report.specs.Reports.{process_lines}
-use Rattle.bd_report.specs.Basis.{IsBasis}
 use Rattle.bd_report.proofs.reporting.report.Given as goal
 
 -- the lines of the processes so far were appended
