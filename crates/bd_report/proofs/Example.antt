@@ -1,8 +1,8 @@
 -- The example of the tests: its script, its journal, and that the journal is in order for the script.
-use Rattle.std.proofs.Common.{◌≡◌, ℕ, zero, suc, ◌+◌, ◌<◌, Bool, true, false, ◌&&◌, nat_lt, All, List, [], ◌∷◌, ◌++◌, None, Some, length, replicate, take, arith, lit≤, refl, sym, ap, ◌∙◌, inl, subst}
+use Rattle.std.proofs.Common.{◌≡◌, ℕ, zero, suc, ◌+◌, ◌<◌, Bool, true, false, ◌&&◌, nat_lt, All, List, [], ◌∷◌, None, Some, length, replicate, take, arith, lit≤, refl, sym, ap, ◌∙◌, inl}
 use Rattle.std.specs.Prelude.{codes, not}
 use Rattle.std.specs.List.{list_all, range_with_len}
-use Rattle.std.proofs.lemmas.Bool.{and_parts, cases_Bool, ltb-true}
+use Rattle.std.proofs.lemmas.Bool.{and_parts, ltb-true}
 use Rattle.std.proofs.lemmas.List.Elements.{All-cons, All-nil}
 use Rattle.bd_base.specs.Bytes.{AreBytes}
 use Rattle.bd_base.specs.Names.{IsName, IsNameByte}
@@ -15,7 +15,6 @@ use Rattle.bd_base.specs.declared.script.Call.{Call}
 use Rattle.bd_base.specs.declared.script.Call.TheVariants.{Close, Create, Enter, Map, RawRead, RawWrite, Read, Size, Truncate, Unlink, Write}
 use Rattle.bd_base.specs.declared.script.How.TheVariants.{Direct, Plain}
 use Rattle.bd_base.specs.declared.script.Mode.TheVariants.{R, Rw}
-use Rattle.bd_base.specs.declared.script.Process.{Process}
 use Rattle.bd_base.specs.declared.script.Script.{Script}
 use Rattle.bd_entry.specs.declared.entry.Entry.{Entry}
 use Rattle.bd_entry.specs.declared.entry.Entry.TheVariants.{Access, Attached, Cleared, Closed, Created, Detached, Mapped, Missed, Opened, Refused, SizeRead, Sized, Unlinked}

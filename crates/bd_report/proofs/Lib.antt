@@ -3,4 +3,5 @@ pub mod Telling
 pub mod Order
 pub mod Tables
 pub mod Lines
+pub mod LawsOfReplies
 pub mod Example

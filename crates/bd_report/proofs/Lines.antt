@@ -18,11 +18,11 @@ use Rattle.bd_entry.specs.declared.entry.Entry.{Entry}
 use Rattle.bd_entry.specs.Calls.{call_at, calls_of, entries_of, is_ended_by}
 use Rattle.bd_entry.specs.History.{InOrder}
 use Rattle.bd_entry.proofs.CallOrder.{is_finished-called, numbered}
-use Rattle.bd_report.specs.declared.run.Run.{Run}
-use Rattle.bd_report.specs.declared.told.Told.{Told}
+use Rattle.bd_report.specs.declared.reporting.Basis.{Basis}
+use Rattle.bd_report.specs.declared.notes.Notes.{Notes}
 use Rattle.bd_report.specs.Replies.{call_text, reply_text}
-use Rattle.bd_report.specs.Runs.{IsRun}
-use Rattle.bd_report.specs.Told.{AreTold, IsOfEnded, Tells}
+use Rattle.bd_report.specs.Basis.{IsBasis}
+use Rattle.bd_report.specs.Notes.{AreNotesOfAll, IsOfEnded, AreNotesOf}
 use Rattle.bd_report.proofs.Tables.{slot_inside}
 
 -- what was read at a place of a list stands there
@@ -34,42 +34,42 @@ stands xs ys i x same inside is =
 pub calls_are : (script : Script) (process : ℕ) (p : Process) → slice_get script.processes process ≡ Some p → calls_of script process ≡ p.calls
 calls_are script process p is = ap (λ (o : Option Process). option_map_or (λ (q : Process). q.calls) o []) is
 
--- what stands in the table for a call of a run that is over
-pub record IsLineOf (script : Script) (journal : List Entry) (at : At) (call : Call) (told : Told) : Type 0 where
+-- the notes of the table on a call of a journal that is in order
+pub record IsLineOf (script : Script) (journal : List Entry) (at : At) (call : Call) (notes : Notes) : Type 0 where
   pub called : call_at script at ≡ Some call
-  pub tells : Tells call (entries_of at journal) told
+  pub tells : AreNotesOf call (entries_of at journal) notes
   pub ended : is_ended_by call (entries_of at journal) ≡ true
 
-line_of : (script : Script) (journal : List Entry) (table : List Told) (process number : ℕ) (p : Process) (call : Call) (told : Told) →
-    IsWithinLimits script → InOrder script journal → AreTold script journal table → slice_get script.processes process ≡ Some p →
-    slice_get p.calls number ≡ Some call → told ≡ get_or table (CALLS * process + number) told →
-    IsLineOf script journal (numbered process number) call told
-line_of script journal table process number p call told limits order are is call_is told_is =
+line_of : (script : Script) (journal : List Entry) (table : List Notes) (process number : ℕ) (p : Process) (call : Call) (notes : Notes) →
+    IsWithinLimits script → InOrder script journal → AreNotesOfAll script journal table → slice_get script.processes process ≡ Some p →
+    slice_get p.calls number ≡ Some call → notes ≡ get_or table (CALLS * process + number) notes →
+    IsLineOf script journal (numbered process number) call notes
+line_of script journal table process number p call notes limits order are is call_is told_is =
     let calls : calls_of script process ≡ p.calls = calls_are script process p is in
     let called : call_at script (numbered process number) ≡ Some call = ap (λ (l : List Call). slice_get l number) calls ∙ call_is in
     let inside : number < length (calls_of script process) =
     subst (λ (l : List Call). number < length l) (sym calls) (slice_get_within p.calls number call call_is) in
     let slot : CALLS * process + number < length table = slot_inside script journal table (numbered process number) call limits are called in
-    let in_table : slice_get table (CALLS * process + number) ≡ Some told =
-    slice_get_read table (length table) (CALLS * process + number) told refl slot told_is in
+    let in_table : slice_get table (CALLS * process + number) ≡ Some notes =
+    slice_get_read table (length table) (CALLS * process + number) notes refl slot told_is in
     record {
       called = called;
-      tells = are.tells (numbered process number) call told called in_table;
+      tells = are.tells (numbered process number) call notes called in_table;
       ended = sym (is_finished-called script journal (numbered process number) call called) ∙ order.finished process number inside;
     }
 
 -- the same of what was read from the lists
-pub line_at : (run : Run) (process number : ℕ) (processes : List Process) (p : Process) (calls : List Call) (call : Call) (told : Told) → IsRun run →
-    processes ≡ run.script.now.processes → process < length run.script.now.processes → p ≡ get_or processes process p →
-    calls ≡ p.calls → number < length calls → call ≡ get_or calls number call → told ≡ get_or run.told.items (CALLS * process + number) told →
-    IsLineOf run.script.now run.journal.now (numbered process number) call told
-line_at run process number processes p calls call told is all inside p_is of_p few call_is told_is =
-    line_of run.script.now run.journal.now run.told.items process number p call told is.limits is.in_order is.told
-    (stands processes run.script.now.processes process p all (subst (λ (l : List Process). process < length l) (sym all) inside) p_is)
+pub line_at : (basis : Basis) (process number : ℕ) (processes : List Process) (p : Process) (calls : List Call) (call : Call) (notes : Notes) → IsBasis basis →
+    processes ≡ basis.script.now.processes → process < length basis.script.now.processes → p ≡ get_or processes process p →
+    calls ≡ p.calls → number < length calls → call ≡ get_or calls number call → notes ≡ get_or basis.notes.items (CALLS * process + number) notes →
+    IsLineOf basis.script.now basis.journal.now (numbered process number) call notes
+line_at basis process number processes p calls call notes is all inside p_is of_p few call_is told_is =
+    line_of basis.script.now basis.journal.now basis.notes.items process number p call notes is.limits is.in_order is.notes
+    (stands processes basis.script.now.processes process p all (subst (λ (l : List Process). process < length l) (sym all) inside) p_is)
     (stands calls p.calls number call of_p few call_is) told_is
 
-pub is_of_ended : (script : Script) (journal : List Entry) (at : At) (call : Call) (told : Told) → IsLineOf script journal at call told → IsOfEnded call told
-is_of_ended script journal at call told line = record { entries = entries_of at journal; tells = line.tells; ended = line.ended }
+pub is_of_ended : (script : Script) (journal : List Entry) (at : At) (call : Call) (notes : Notes) → IsLineOf script journal at call notes → IsOfEnded call notes
+is_of_ended script journal at call notes line = record { entries = entries_of at journal; tells = line.tells; ended = line.ended }
 
 -- the reply of a call of the script
 pub reply_of_call : (script : Script) (journal : List Entry) (at : At) (call : Call) → call_at script at ≡ Some call →

@@ -17,13 +17,13 @@ use Rattle.bd_entry.specs.declared.entry.Entry.TheVariants.{Access, Refused}
 use Rattle.bd_entry.specs.Calls.{Place, at_of, call_at, calls_of, piece_of_call}
 use Rattle.bd_entry.specs.History.{InOrderSoFar}
 use Rattle.bd_entry.specs.Rules.{EntryRule, FitsCall, FitsScript, NextCall}
-use Rattle.bd_entry.specs.RulesOfCalls.{HasFieldsOf, IsNextCall, IsOfCall}
+use Rattle.bd_entry.specs.RulesOfCalls.{HasFieldsOf, IsNextCall}
 use Rattle.bd_entry.proofs.CallPieces.{All-slice_get}
 use Rattle.bd_entry.proofs.Histories.{order_holds}
 use Rattle.bd_entry.proofs.HistoryLaws.{is_call}
 use Rattle.bd_entry.proofs.RangesOfPieces.{piece_of_call-is}
 use Rattle.bd_pieces.specs.declared.piece_list.TheConstants.{MOST_PIECES}
-use Rattle.bd_report.specs.Told.{AreFew, answered_piece}
+use Rattle.bd_report.specs.Notes.{AreFew, answered_piece}
 
 -- the entry is of a call of the script, and answers one of few pieces
 pub record IsNoted (script : Script) (entry : Entry) : Type 0 where

@@ -12,24 +12,24 @@ use Rattle.bd_entry.specs.declared.entry.Entry.{Entry}
 use Rattle.bd_entry.specs.Calls.{is_answer_of, is_end_of, pieces_of_call}
 use Rattle.bd_entry.proofs.RangesOfPieces.{piece_of_call-is}
 use Rattle.bd_pieces.specs.declared.piece_list.TheConstants.{MOST_PIECES}
-use Rattle.bd_report.specs.declared.told.Told.{Told}
-use Rattle.bd_report.specs.Replies.{answer_of, answers_of, end_of, told_text}
-use Rattle.bd_report.specs.Told.{IsOfEnded, Tells, ends_by_pieces, first_of}
+use Rattle.bd_report.specs.declared.notes.Notes.{Notes}
+use Rattle.bd_report.specs.Replies.{answer_of, answers_of, end_of, ended_text}
+use Rattle.bd_report.specs.Notes.{IsOfEnded, AreNotesOf, ends_by_pieces, first_of}
 
 -- the first entry that passes, with one more entry
 find-push : (p : Entry → Bool) (entries : List Entry) (entry : Entry) →
     find p (entries ++ entry ∷ []) ≡ first_of (find p entries) (p entry) entry
 find-push p entries entry = find-append p entries (entry ∷ [])
 
--- what was noted is told with one more entry
-pub Tells-push : (call : Call) (entries : List Entry) (entry : Entry) (told new : Told) → Tells call entries told →
-    option_copied new.end ≡ first_of (option_copied told.end) (is_end_of call entry) entry →
-    length new.answers ≡ length told.answers →
-    ((number : ℕ) → number < length told.answers →
+-- one more entry was noted
+pub AreNotesOf-push : (call : Call) (entries : List Entry) (entry : Entry) (notes new : Notes) → AreNotesOf call entries notes →
+    option_copied new.end ≡ first_of (option_copied notes.end) (is_end_of call entry) entry →
+    length new.answers ≡ length notes.answers →
+    ((number : ℕ) → number < length notes.answers →
     option_copied (get_or new.answers number None)
-    ≡ first_of (option_copied (get_or told.answers number None)) (is_answer_of number entry) entry) →
-    Tells call (entries ++ entry ∷ []) new
-Tells-push call entries entry told new tells end room answers = record {
+    ≡ first_of (option_copied (get_or notes.answers number None)) (is_answer_of number entry) entry) →
+    AreNotesOf call (entries ++ entry ∷ []) new
+AreNotesOf-push call entries entry notes new tells end room answers = record {
   end = end ∙ ap (λ (o : Option Entry). first_of o (is_end_of call entry) entry) tells.end ∙ sym (find-push (is_end_of call) entries entry);
   room = room ∙ tells.room;
   answers = λ number few.
@@ -52,10 +52,10 @@ list_any-find p (e ∷ entries) none =
     (cases_Bool (p e))
 
 -- a finished call that no entry ends alone is ended by its pieces
-pub ended_by_pieces : (call : Call) (told : Told) → IsOfEnded call told → told.end ≡ None → ends_by_pieces call ≡ true
-ended_by_pieces (Read fd off len) told of none = refl
-ended_by_pieces (Write fd off bytes) told of none = refl
-ended_by_pieces call told of none =
+pub ended_by_pieces : (call : Call) (notes : Notes) → IsOfEnded call notes → notes.end ≡ None → ends_by_pieces call ≡ true
+ended_by_pieces (Read fd off len) notes of none = refl
+ended_by_pieces (Write fd off bytes) notes of none = refl
+ended_by_pieces call notes of none =
     let no_end : list_any (is_end_of call) of.entries ≡ false =
     list_any-find (is_end_of call) of.entries (sym of.tells.end ∙ ap option_copied none) in
     absurd (both_ways (list_any (is_end_of call) of.entries) no_end of.ended)
@@ -85,15 +85,15 @@ few_pieces call ok =
     (cases_lt MOST_PIECES (length (pieces_of_call call)))
 
 -- the answers that were noted are those of the call
-pub noted_answers : (call : Call) (entries : List Entry) (told : Told) → IsCall call → Tells call entries told →
-    map option_copied (take (length (pieces_of_call call)) told.answers) ≡ answers_of call entries
-noted_answers call entries told ok tells =
+pub noted_answers : (call : Call) (entries : List Entry) (notes : Notes) → IsCall call → AreNotesOf call entries notes →
+    map option_copied (take (length (pieces_of_call call)) notes.answers) ≡ answers_of call entries
+noted_answers call entries notes ok tells =
     let few : length (pieces_of_call call) ≤ MOST_PIECES = few_pieces call ok in
-    map-take option_copied (answer_of entries) None told.answers (length (pieces_of_call call)) 0 (omega (arith, few, tells.room))
+    map-take option_copied (answer_of entries) None notes.answers (length (pieces_of_call call)) 0 (omega (arith, few, tells.room))
     (λ k below. tells.answers k (omega (arith, few, below)) ∙ (let same : k ≡ 0 + k = omega arith in ap (answer_of entries) same))
 
--- what is told of a call that no entry ends alone
-pub told_by_pieces : (call : Call) (entries : List Entry) (told : Told) → Tells call entries told → told.end ≡ None → (answers : List (Option Entry)) →
-    told_text call None answers ≡ told_text call (end_of call entries) answers
-told_by_pieces call entries told tells none answers =
-    ap (λ (o : Option Entry). told_text call o answers) (sym (ap option_copied none) ∙ tells.end)
+-- the reply of a call that no entry ends alone
+pub ended_text-by_pieces : (call : Call) (entries : List Entry) (notes : Notes) → AreNotesOf call entries notes → notes.end ≡ None → (answers : List (Option Entry)) →
+    ended_text call None answers ≡ ended_text call (end_of call entries) answers
+ended_text-by_pieces call entries notes tells none answers =
+    ap (λ (o : Option Entry). ended_text call o answers) (sym (ap option_copied none) ∙ tells.end)

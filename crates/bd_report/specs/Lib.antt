@@ -1,6 +1,7 @@
 -- The words of the contracts of replies and reports.
+pub mod Basis
+pub mod Laws
+pub mod Notes
 pub mod Replies
 pub mod Reports
-pub mod Told
 pub mod Totals
-pub mod Runs

@@ -98,13 +98,13 @@ pieces_text call answers = []
 -- ---- replies
 
 -- the reply of a call by the entry that ends it, and by the answers of its pieces where none does
-abbrev pub told_text : Call → Option Entry → List (Option Entry) → List ℕ
-told_text call (Some end) answers = end_text call end
-told_text call None answers = pieces_text call answers
+abbrev pub ended_text : Call → Option Entry → List (Option Entry) → List ℕ
+ended_text call (Some end) answers = end_text call end
+ended_text call None answers = pieces_text call answers
 
 -- the reply of a call with these entries
 abbrev pub call_text : Call → List Entry → List ℕ
-call_text call entries = told_text call (end_of call entries) (answers_of call entries)
+call_text call entries = ended_text call (end_of call entries) (answers_of call entries)
 
 -- the reply of the call of this process and number
 abbrev pub reply_text : Script → List Entry → At → List ℕ

@@ -2,12 +2,13 @@
 #![tactic(auto)]
 
 mod journal;
+pub mod laws;
+mod notes;
 mod replies;
-mod run;
-mod told;
+mod reporting;
 mod totals;
 
-pub use run::{reply, report};
+pub use reporting::{reply, report};
 
 #[cfg(test)]
 mod tests;

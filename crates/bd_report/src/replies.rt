@@ -8,14 +8,15 @@ ghost use Rattle.bd_entry.specs.declared.entry.Entry.{Entry};
 ghost use Rattle.bd_pieces.specs.Gathered.{gathered_bytes};
 ghost use Rattle.bd_pieces.specs.declared.piece_list.TheConstants.{MOST_PIECES};
 ghost use Rattle.bd_report.specs.Replies.{call_text, end_text, first_reason, given_bytes, mapped_text, ok_text, parts_of, piece_reason, pieces_text, read_text};
-ghost use Rattle.bd_report.specs.Told.{IsOfEnded, Tells, ends_by_pieces};
+ghost use Rattle.bd_report.specs.Notes.{IsOfEnded, AreNotesOf, ends_by_pieces};
 
-use crate::told::Told;
+use crate::notes::Notes;
 use bd_base::{Call, OutOfMemory, Reason};
 use bd_blocks::push_runs;
 use bd_blocks::text::{push_bytes, push_field, push_number, push_number_field};
 use bd_entry::{Entry, push_found, push_reason};
 use bd_pieces::{Piece, pieces};
+use std::alloc::Global;
 
 /// Appends `ok` and a number.
 fn push_ok_number(text: &mut Vec<u8>, number: u64) -> Result<(), OutOfMemory>
@@ -83,14 +84,15 @@ fn given_bytes<'a>(answer: Option<&'a Entry>) -> &'a [u8]
 
 /// The bytes that the pieces of a read gave, up to and with the first piece that gave fewer than asked.
 fn bytes_read(
+    alloc: Global,
     cut: &[Piece],
     answers: &[Option<&Entry>],
-    bytes: &mut Vec<u8>,
-) -> Result<(), OutOfMemory>
+) -> Result<Vec<u8>, OutOfMemory>
     requires { length cut.now ≡ length answers.now }
-    ensures { OnOk result (bytes.new.items
-        ≡ bytes.old.items ++ gathered_bytes (parts_of cut.now (map option_copied answers.now))) }
+    ensures { IfOk result (λ bytes. bytes.items
+        ≡ gathered_bytes (parts_of cut.now (map option_copied answers.now))) }
 {
+    let mut bytes = Vec::new(alloc);
     for (number, piece) in cut.iter().enumerate() {
         let given = given_bytes(answers[number]);
         bytes.extend_from_slice(given)?;
@@ -98,7 +100,7 @@ fn bytes_read(
             break;
         }
     }
-    Ok(())
+    Ok(bytes)
 }
 
 /// Why a piece was refused.
@@ -133,15 +135,14 @@ fn push_pieces(
     requires limits { IsCall call.now }
     requires by_pieces { ends_by_pieces call.now ≡ true }
     requires room { length answers.now ≡ MOST_PIECES }
-    ensures { OnOk result (text.new.items ≡ text.old.items
-        ++ pieces_text call.now (map option_copied (take (length (pieces_of_call call.now)) answers.now))) }
+    ensures { let notes = take (length (pieces_of_call call.now)) answers.now in OnOk result
+        (text.new.items ≡ text.old.items ++ pieces_text call.now (map option_copied notes)) }
 {
     match call {
         Call::Read { off, len, .. } => {
             let cut = pieces(*off, u64::from(*len));
             let cut = cut.as_slice();
-            let mut bytes = Vec::new(*text.allocator());
-            bytes_read(cut, &answers[..cut.len()], &mut bytes)?;
+            let bytes = bytes_read(*text.allocator(), cut, &answers[..cut.len()])?;
             push_read(text, bytes.as_slice())
         }
         Call::Write { off, bytes, .. } => {
@@ -156,14 +157,14 @@ fn push_pieces(
 }
 
 /// Appends the reply of a call that is finished.
-pub(crate) fn push_reply(text: &mut Vec<u8>, call: &Call, told: &Told) -> Result<(), OutOfMemory>
+pub(crate) fn push_reply(text: &mut Vec<u8>, call: &Call, notes: &Notes) -> Result<(), OutOfMemory>
     requires limits { IsCall call.now }
-    requires ended { IsOfEnded call.now told.now }
-    ensures { (entries : List Entry) → Tells call.now entries told.now →
+    requires ended { IsOfEnded call.now notes.now }
+    ensures { (entries : List Entry) → AreNotesOf call.now entries notes.now →
         OnOk result (text.new.items ≡ text.old.items ++ call_text call.now entries) }
 {
-    match told.end {
+    match notes.end {
         Some(end) => push_end(text, call, end),
-        None => push_pieces(text, call, &told.answers),
+        None => push_pieces(text, call, &notes.answers),
     }
 }

@@ -8,4 +8,4 @@ use Rattle.bd_report.proofs.replies.bytes_read.Given as goal
 abbrev pub invariant-loop-number : goal.invariant-loop-number
 invariant-loop-number l =
     l.bytes.items ++ gathered_bytes (parts_of (drop l.number l.cut) (map option_copied (drop l.number l.answers)))
-    ≡ l.initial.bytes.items ++ gathered_bytes (parts_of l.cut (map option_copied l.answers))
+    ≡ gathered_bytes (parts_of l.cut (map option_copied l.answers))

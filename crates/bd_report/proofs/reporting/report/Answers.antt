@@ -1,6 +1,6 @@
 use Rattle.bd_report.specs.Reports.{process_lines}
 use Rattle.bd_report.proofs.Lines.{lines_more}
-use Rattle.bd_report.proofs.run.report.Goals as goal
+use Rattle.bd_report.proofs.reporting.report.Goals as goal
 
 pub loop-number-preserved : goal.loop-number-preserved
 loop-number-preserved c =

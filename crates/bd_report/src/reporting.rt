@@ -6,14 +6,14 @@ ghost use Rattle.bd_blocks.specs.declared.text.TheConstants.{LF};
 ghost use Rattle.bd_entry.specs.Calls.{is_finished};
 ghost use Rattle.bd_entry.specs.History.{InOrder, InOrderSoFar};
 ghost use Rattle.bd_entry.specs.declared.entry.Entry.{Entry};
+ghost use Rattle.bd_report.specs.Basis.{IsBasis};
+ghost use Rattle.bd_report.specs.Notes.{AreNotesOf, IsOfEnded};
 ghost use Rattle.bd_report.specs.Replies.{call_text, reply_text};
 ghost use Rattle.bd_report.specs.Reports.{process_lines, report_text};
-ghost use Rattle.bd_report.specs.Runs.{IsRun};
-ghost use Rattle.bd_report.specs.Told.{IsOfEnded, Tells};
 
-use crate::journal::{call_at, told_of_call, told_of_calls};
+use crate::journal::{call_at, notes_of_call, notes_of_calls};
+use crate::notes::Notes;
 use crate::replies::push_reply;
-use crate::told::Told;
 use crate::totals::{push_totals, totals_of};
 use bd_base::{At, Bytes, CALLS, Call, List, OutOfMemory, Script};
 use bd_blocks::text::{LF, push_bytes, push_field, push_number, push_number_field};
@@ -35,48 +35,53 @@ pub fn reply(
     ensures { IfOk result (λ text. text ≡ reply_text script.now journal.now at) }
 {
     let call = call_at(script, &at);
-    let told = told_of_call(journal, at, call);
+    let notes = notes_of_call(journal, at, call);
     let mut text = Vec::new(alloc);
-    push_reply(&mut text, call, &told)?;
+    push_reply(&mut text, call, &notes)?;
     Ok(List::from_vec(text))
 }
 
-/// A run that is over: its script, its journal, and what the journal tells of each call.
+/// What a report is made from: a script, its journal, and the notes on each call.
 #[derive(Debug, Drop)]
-struct Run<'a> {
+struct Basis<'a> {
     script: &'a Script,
     journal: &'a [Entry],
-    told: Vec<Told<'a>>,
+    notes: Vec<Notes<'a>>,
 }
 
 /// Appends the line of a call.
-fn push_line(text: &mut Vec<u8>, number: usize, call: &Call, told: &Told) -> Result<(), OutOfMemory>
+fn push_line(
+    text: &mut Vec<u8>,
+    number: usize,
+    call: &Call,
+    notes: &Notes,
+) -> Result<(), OutOfMemory>
     requires limits { IsCall call.now }
-    requires ended { IsOfEnded call.now told.now }
-    ensures { (entries : List Entry) → Tells call.now entries told.now →
+    requires ended { IsOfEnded call.now notes.now }
+    ensures { (entries : List Entry) → AreNotesOf call.now entries notes.now →
         OnOk result (text.new.items ≡ text.old.items
         ++ before (number_text number) (call_text call.now entries ++ LF ∷ [])) }
 {
     push_number_field(text, number as u64)?;
-    push_reply(text, call, told)?;
+    push_reply(text, call, notes)?;
     text.push(LF)?;
     Ok(())
 }
 
 /// Appends the lines of a process.
-fn push_process(text: &mut Vec<u8>, run: &Run, number: usize) -> Result<(), OutOfMemory>
-    requires inside { number < length run.now.script.now.processes }
-    requires is_run { IsRun run.now }
+fn push_process(text: &mut Vec<u8>, basis: &Basis, number: usize) -> Result<(), OutOfMemory>
+    requires inside { number < length basis.now.script.now.processes }
+    requires is_run { IsBasis basis.now }
     ensures { OnOk result (text.new.items ≡ text.old.items
-        ++ process_lines run.now.script.now run.now.journal.now number) }
+        ++ process_lines basis.now.script.now basis.now.journal.now number) }
 {
     push_field(text, b"proc")?;
     push_number(text, number as u64)?;
     text.push(LF)?;
-    let process = &run.script.processes.as_slice()[number];
+    let process = &basis.script.processes.as_slice()[number];
     let first = CALLS as usize * number;
     for (call_number, call) in process.calls.as_slice().iter().enumerate() {
-        push_line(text, call_number, call, &run.told[first + call_number])?;
+        push_line(text, call_number, call, &basis.notes[first + call_number])?;
     }
     Ok(())
 }
@@ -89,15 +94,15 @@ pub fn report(alloc: Global, script: &Script, journal: &[Entry]) -> Result<Bytes
     requires in_order { InOrder script.now journal.now }
     ensures { IfOk result (λ text. text ≡ report_text script.now journal.now) }
 {
-    let run = Run {
+    let basis = Basis {
         script,
         journal,
-        told: told_of_calls(alloc, script, journal)?,
+        notes: notes_of_calls(alloc, script, journal)?,
     };
     let mut text = Vec::new(alloc);
     push_bytes(&mut text, b"bypassd-report 1\n")?;
     for number in 0..script.processes.len() {
-        push_process(&mut text, &run, number)?;
+        push_process(&mut text, &basis, number)?;
     }
     push_totals(&mut text, totals_of(journal))?;
     Ok(List::from_vec(text))

@@ -1,8 +1,7 @@
 use Rattle.std.proofs.Common.{◌≡◌, ◌++◌}
 use Rattle.std.specs.List.{flat_map, range_with_len}
 use Rattle.bd_report.specs.Reports.{process_lines}
-use Rattle.bd_report.specs.Runs.{IsRun}
-use Rattle.bd_report.proofs.run.report.Given as goal
+use Rattle.bd_report.proofs.reporting.report.Given as goal
 
 -- the lines of the processes so far were appended
 abbrev pub invariant-loop-number : goal.invariant-loop-number

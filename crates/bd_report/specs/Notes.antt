@@ -1,4 +1,4 @@
--- What is kept of the entries of calls, from which their replies are made.
+-- Notes on the entries of calls, from which their replies are made.
 use Rattle.std.specs.Prelude.{◌≡◌, ℕ, ◌+◌, ◌*◌, ◌<◌, All, IfSome, cond, Bool, true, false, Option, None, Some, List, length, get_or, slice_get}
 use Rattle.std.specs.Option.{option_copied, option_or}
 use Rattle.bd_base.specs.declared.journal.At.{At}
@@ -10,7 +10,7 @@ use Rattle.bd_entry.specs.declared.entry.Entry.{Entry}
 use Rattle.bd_entry.specs.declared.entry.Entry.TheVariants.{Access, Refused}
 use Rattle.bd_entry.specs.Calls.{call_at, entries_of, is_ended_by}
 use Rattle.bd_pieces.specs.declared.piece_list.TheConstants.{MOST_PIECES}
-use Rattle.bd_report.specs.declared.told.Told.{Told}
+use Rattle.bd_report.specs.declared.notes.Notes.{Notes}
 use Rattle.bd_report.specs.Replies.{answer_of, end_of}
 
 -- ---- one call
@@ -31,17 +31,17 @@ answered_piece entry = None
 abbrev pub first_of : Option Entry → Bool → Entry → Option Entry
 first_of so_far passes entry = option_or so_far (cond passes (Some entry) None)
 
--- these are the end of the call and the answers of its pieces, as its entries tell them
-pub record Tells (call : Call) (entries : List Entry) (told : Told) : Type 0 where
-  pub end : option_copied told.end ≡ end_of call entries
-  pub room : length told.answers ≡ MOST_PIECES
+-- the notes are the end of the call and the answers of its pieces, as these entries of it tell them
+pub record AreNotesOf (call : Call) (entries : List Entry) (notes : Notes) : Type 0 where
+  pub end : option_copied notes.end ≡ end_of call entries
+  pub room : length notes.answers ≡ MOST_PIECES
   pub answers : (number : ℕ) → number < MOST_PIECES →
-      option_copied (get_or told.answers number None) ≡ answer_of entries number
+      option_copied (get_or notes.answers number None) ≡ answer_of entries number
 
--- these are told by some entries that end the call
-pub record IsOfEnded (call : Call) (told : Told) : Type 0 where
+-- these are notes on entries that end the call
+pub record IsOfEnded (call : Call) (notes : Notes) : Type 0 where
   pub entries : List Entry
-  pub tells : Tells call entries told
+  pub tells : AreNotesOf call entries notes
   pub ended : is_ended_by call entries ≡ true
 
 -- each entry that answers a piece answers one of few
@@ -54,8 +54,8 @@ AreFew journal = All (λ entry. IfSome (answered_piece entry) (λ piece. piece <
 abbrev pub slot_of : At → ℕ
 slot_of at = CALLS * at.process + at.call
 
--- the table has what the journal tells of each call of the script
-pub record AreTold (script : Script) (journal : List Entry) (table : List Told) : Type 0 where
+-- the table has the notes on each call of the script
+pub record AreNotesOfAll (script : Script) (journal : List Entry) (table : List Notes) : Type 0 where
   pub room : length table ≡ CALLS * length script.processes
-  pub tells : (at : At) (call : Call) (told : Told) → call_at script at ≡ Some call →
-      slice_get table (slot_of at) ≡ Some told → Tells call (entries_of at journal) told
+  pub tells : (at : At) (call : Call) (notes : Notes) → call_at script at ≡ Some call →
+      slice_get table (slot_of at) ≡ Some notes → AreNotesOf call (entries_of at journal) notes

@@ -5,7 +5,7 @@ ghost use Rattle.bd_base.specs.declared.script.Call.{Call};
 ghost use Rattle.bd_entry.specs.Calls.{is_answer_of, is_end_of};
 ghost use Rattle.bd_entry.specs.declared.entry.Entry.{Entry};
 ghost use Rattle.bd_pieces.specs.declared.piece_list.TheConstants.{MOST_PIECES};
-ghost use Rattle.bd_report.specs.Told.{Tells, answered_piece, first_of};
+ghost use Rattle.bd_report.specs.Notes.{AreNotesOf, answered_piece, first_of};
 
 use bd_base::{Call, How};
 use bd_entry::Entry;
@@ -85,19 +85,19 @@ fn note_answer<'a>(answers: &mut [Option<&'a Entry>], entry: &'a Entry)
 
 /// What the entries of a call tell of its reply.
 #[derive(Clone, Copy, Debug)]
-pub(crate) struct Told<'a> {
+pub(crate) struct Notes<'a> {
     /// The entry that alone ends the call.
     pub(crate) end: Option<&'a Entry>,
     /// The answers of the pieces, by their numbers.
     pub(crate) answers: [Option<&'a Entry>; MOST_PIECES],
 }
 
-impl<'a> Told<'a> {
+impl<'a> Notes<'a> {
     /// What no entry tells.
-    pub(crate) fn nothing() -> Told<'a>
-        ensures { (call : Call) → Tells call [] result }
+    pub(crate) fn new() -> Notes<'a>
+        ensures { (call : Call) → AreNotesOf call [] result }
     {
-        Told {
+        Notes {
             end: None,
             answers: [None; MOST_PIECES],
         }
@@ -106,8 +106,8 @@ impl<'a> Told<'a> {
     /// Notes one more entry of the call.
     pub(crate) fn note(&mut self, call: &Call, entry: &'a Entry)
         requires { IfSome (answered_piece entry.now) (λ piece. piece < MOST_PIECES) }
-        ensures { (entries : List Entry) → Tells call.now entries self.old
-            → Tells call.now (entries ++ entry.now ∷ []) self.new }
+        ensures { (entries : List Entry) → AreNotesOf call.now entries self.old
+            → AreNotesOf call.now (entries ++ entry.now ∷ []) self.new }
     {
         self.end = first_end(self.end, call, entry);
         note_answer(&mut self.answers, entry);
