@@ -1,5 +1,5 @@
 -- The laws of the tables: they are the contracts of the functions of src/laws.rt.
-use Rattle.std.specs.Prelude.{◌≡◌, ℕ, ◌<◌, ◌%◌, Bool, true, Option, None, Some, IfSome, List}
+use Rattle.std.specs.Prelude.{◌≡◌, ◌↔◌, ℕ, ◌<◌, ◌%◌, Bool, true, Option, None, Some, IfSome, List}
 use Rattle.std.specs.FinMap as fin
 use Rattle.bd_base.specs.declared.key.Cell.{Cell}
 use Rattle.bd_base.specs.declared.key.Key.{Key}
@@ -9,12 +9,14 @@ use Rattle.bd_lines.specs.declared.lines.Line.{Line}
 use Rattle.bd_lines.specs.declared.lines.TheConstants.{LINES}
 use Rattle.bd_lines.specs.Lines.{hit, line_at}
 use Rattle.bd_tables.specs.declared.request.Completion.{Completion}
+use Rattle.bd_tables.specs.declared.request.Drained.TheVariants.{Yes}
 use Rattle.bd_tables.specs.declared.request.Request.{Request}
 use Rattle.bd_tables.specs.declared.state.Right.{Right}
 use Rattle.bd_tables.specs.declared.state.RightState.TheVariants.{On}
 use Rattle.bd_tables.specs.declared.state.Walk.TheVariants.{Entered, Translated}
 use Rattle.bd_tables.specs.Effects.{attach, clear, detach, drain, enter, fill, look, put_entry, raise_limit, read_entry, retire, sweep}
 use Rattle.bd_tables.specs.Kernel.{IsAttachedIn, IsDrained, IsOn, IsSweptWhole, ReachesUpTo}
+use Rattle.bd_tables.specs.Plain.{drained_of}
 use Rattle.bd_tables.specs.Sound.{IsKey, IsOfEntry, IsSound, granted_of}
 use Rattle.bd_tables.specs.State.{TableState, block_pair, engines_in, found_entering, lookup, walk_at}
 
@@ -128,6 +130,11 @@ RaiseLowersNothing =
     IsOfEntry reached (lookup (raise_limit tables file index limit) key i)
 
 -- ---- what a revocation reaches
+
+-- a drain is over exactly where no engine is in the key, granted or refused
+abbrev pub DrainsAreOver : Type 0
+DrainsAreOver = (tables : TableState) (key : Key) →
+    (drained_of (engines_in tables.walks key) ≡ Yes) ↔ (engines_in tables.walks key ≡ 0)
 
 -- no engine is granted in a drained key, so none holds a translation under it or may come to hold one
 abbrev pub DrainedKeysAreLeft : Type 0

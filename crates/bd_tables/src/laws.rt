@@ -1,5 +1,5 @@
 //! What holds of the tables, whatever they are made of. The calls do nothing: their contracts are the laws.
-ghost use Rattle.bd_tables.specs.Laws.{AttachKeeps, ClearKeeps, DetachKeeps, DrainKeeps, DrainedKeysAreLeft, EnterKeeps, FillKeeps, HitsAreLookups, LookKeeps, OnlyOnGrants, PutKeeps, PutLowersNothing, RaiseKeeps, RaiseLowersNothing, ReadKeeps, RetireKeeps, SweepKeeps, SweptKeysAreInNoLine};
+ghost use Rattle.bd_tables.specs.Laws.{AttachKeeps, ClearKeeps, DetachKeeps, DrainKeeps, DrainedKeysAreLeft, DrainsAreOver, EnterKeeps, FillKeeps, HitsAreLookups, LookKeeps, OnlyOnGrants, PutKeeps, PutLowersNothing, RaiseKeeps, RaiseLowersNothing, ReadKeeps, RetireKeeps, SweepKeeps, SweptKeysAreInNoLine};
 
 /// Engines are granted and told only what rights and cells say.
 pub fn walks_answer_the_lookup()
@@ -33,8 +33,10 @@ pub fn growth_lowers_nothing()
     ensures raise { RaiseLowersNothing }
 {}
 
-/// Nothing of a key is left in engines after its drain, and nothing in the cache after its sweeps.
+/// A drain is over exactly where no engine is in the key. From then on none is granted there, and after the sweeps
+/// the cache has nothing of the key.
 pub fn revocation_leaves_nothing()
+    ensures over { DrainsAreOver }
     ensures drained { DrainedKeysAreLeft }
     ensures swept { SweptKeysAreInNoLine }
 {}

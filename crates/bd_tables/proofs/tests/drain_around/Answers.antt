@@ -1,5 +1,5 @@
 -- The key is cleared, and stays so while the engine is in it.
-use Rattle.std.proofs.Common.{◌≡◌, sym, ◌∙◌, subst}
+use Rattle.std.proofs.Common.{sym, ◌∙◌, subst}
 use Rattle.bd_tables.specs.Kernel.{IsCleared, KernelState, KeyIs}
 use Rattle.bd_tables.specs.Plain.{kernel_of}
 use Rattle.bd_tables.proofs.Sweeps.{on-cleared}

@@ -1,7 +1,6 @@
 -- An entry beside the one that was filled.
-use Rattle.std.proofs.Common.{◌≢◌, arith, sym, ap, subst}
+use Rattle.std.proofs.Common.{◌≢◌, arith, sym, subst}
 use Rattle.bd_tables.specs.Kernel.{IsEntryUpTo, KernelState}
-use Rattle.bd_tables.specs.Plain.{kernel_of}
 use Rattle.bd_tables.specs.State.{block_pair}
 use Rattle.bd_tables.proofs.Bare.{filled-beside}
 use Rattle.bd_tables.proofs.tests.grow.Goals as goal

@@ -3,7 +3,6 @@ use Rattle.std.proofs.Common.{◌≡◌, ℕ, None, Some, Option, [], ◌∷◌,
 use Rattle.std.specs.FinMap as fin
 use Rattle.std.proofs.lemmas.List.{length-replicate}
 use Rattle.bd_base.specs.Keys.{Pair, key_cmp, key_cmp_total, pair_cmp}
-use Rattle.bd_base.specs.declared.key.Cell.{Cell}
 use Rattle.std.proofs.lemmas.List.FromFn.{get_or-map-range_with_len}
 use Rattle.std.specs.List.{slice_get}
 use Rattle.bd_file_table.specs.Fragments.{Fragment, cell_at, fragment_with, padded}

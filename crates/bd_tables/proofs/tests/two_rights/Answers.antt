@@ -1,5 +1,5 @@
 -- Both keys are On.
-use Rattle.std.proofs.Common.{◌≡◌, None, Some, ap, sym, ◌∙◌, subst, refl, false, true}
+use Rattle.std.proofs.Common.{ap, sym, ◌∙◌, subst, refl, false, true}
 use Rattle.std.specs.FinMap as fin
 use Rattle.bd_base.specs.Keys.{key_cmp, key_cmp_total}
 use Rattle.bd_tables.specs.Effects.{new_right}
