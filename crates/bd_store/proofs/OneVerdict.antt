@@ -75,8 +75,7 @@ module _ (v : Volume) (script : Script) where
       let same : parts.0 ≡ s = one_store script (start_store v script) before parts.0 s parts.1 led in
       let fits = (in_order_in_parts script [] before (e ∷ after)).0 order in
       let holds : IfSome (call_at script (at_of e)) (λ call. FitsStore parts.0 (place_in parts.0 call (at_of e)) e rule) =
-      subst (λ (o : Option Call). IfSome o (λ call. FitsStore parts.0 (place_in parts.0 call (at_of e)) e rule)) (sym parts.2.2) (parts.2.3.keeps rule) in
-      (
+      subst (λ (o : Option Call). IfSome o (λ call. FitsStore parts.0 (place_in parts.0 call (at_of e)) e rule)) (sym parts.2.2) (parts.2.3.keeps rule) in (
         fits.1.0 rule,
         subst (λ (x : Store). IfSome (call_at script (at_of e)) (λ call. FitsStore x (place_in x call (at_of e)) e rule)) same holds,
       )

@@ -127,8 +127,8 @@ module _ (script : Script) (before : List Entry) (s : Store) (k : Kept) (finishe
             (λ of_call. both_ways answer denied ((tells (entries_of (at_of e) before) marked).1 of_call))
 
         module _ (fits : Bool)
-          (tells : (entries : List Entry) → AreMarksOf m entries → (fits ≡ true) ↔ IsOfCall (record { call = call; at = at_of e; before = entries }) e)
-          (yes : fits ≡ true) where
+            (tells : (entries : List Entry) → AreMarksOf m entries → (fits ≡ true) ↔ IsOfCall (record { call = call; at = at_of e; before = entries }) e)
+            (yes : fits ≡ true) where
           of_call : IsOfCall (record { call = call; at = at_of e; before = entries_of (at_of e) before }) e
           of_call = (tells (entries_of (at_of e) before) marked).0 yes
 
@@ -139,7 +139,8 @@ module _ (script : Script) (before : List Entry) (s : Store) (k : Kept) (finishe
               breaks_once script before s e call called next of_call
               (λ is_first. both_ways answer denied ((first (entries_of (at_of e) before) marked).1 is_first))
 
-          module _ (once : Bool) (first : (entries : List Entry) → AreMarksOf m entries → (once ≡ true) ↔ IsFirstOfKind entries e) (is_first : once ≡ true) where
+          module _ (once : Bool) (first : (entries : List Entry) → AreMarksOf m entries → (once ≡ true) ↔ IsFirstOfKind entries e)
+              (is_first : once ≡ true) where
             fits_all : (rule : EntryRule) → FitsScript script before e rule
             fits_all = fits_script script before s e call called next of_call ((first (entries_of (at_of e) before) marked).0 is_first)
 
@@ -152,7 +153,7 @@ module _ (script : Script) (before : List Entry) (s : Store) (k : Kept) (finishe
             breaks_in_store = breaks_store script before s e call called next of_call ((first (entries_of (at_of e) before) marked).0 is_first)
 
             module _ (k2 : Kept) (keeps : (rule : EntryRule) → FitsStore s (place_in s call (at_of e)) e rule)
-              (after : Represents k2 (effect_of s (place_in s call (at_of e)) e)) where
+                (after : Represents k2 (effect_of s (place_in s call (at_of e)) e)) where
               pub is_taken : IsTaken script before s e k2
               is_taken = record { call = call; call_is = called; fits = fits_all; keeps = keeps; after = after }
 

@@ -117,8 +117,7 @@ fn take_entry(
     requires script { IsWithinLimits script.now }
     requires history { (volume : Volume) × IsHistory volume script.now (take number entries.now) s }
     requires store { Represents progress.old.store s }
-    requires finished {
-        AreFinished script.now (take number entries.now) progress.old.finished.items }
+    requires finished { AreFinished script.now (take number entries.now) progress.old.finished.items }
     ensures taken { OnOk result ((entry : Entry) → slice_get entries.now number ≡ Some entry →
         IsTaken script.now (take number entries.now) s entry progress.new.store) }
     ensures finished { OnOk result

@@ -37,7 +37,9 @@ returns-in-Err-Broken-clause-unfinished c process call =
     breaks_first c.args.volume c.args.script.now c.args.entries.now c.loop-number.number c.in-Err-Broken.rule it.0 c.loop-number.progress.store
     c.loop-number.progress.finished.items it.1 c.loop-number.invariant
     (c.in-Err-Broken.ensures.broken c.in-Err-Broken.rule it.0 (ap Err c.in-Err-Broken.field-0-is) it.1) in
-    subst (λ (told : ℕ). (NotLegal c.loop-number.number told ≡ Unfinished process call) ↔ LacksEndOf c.args.volume c.args.script.now c.args.entries.now process call)
+    subst
+    (λ (told : ℕ).
+    (NotLegal c.loop-number.number told ≡ Unfinished process call) ↔ LacksEndOf c.args.volume c.args.script.now c.args.entries.now process call)
     (sym c.in-Err-Broken.rule-is)
     (told_unfinished c.args.volume c.args.script.now c.args.entries.now (NotLegal c.loop-number.number c.in-Err-Broken.rule) breaks process call)
 

@@ -168,9 +168,19 @@ apply-requires g c =
     let same : (at_of e).call ≡ slice_index finished (at_of e).process = sym number ∙ c.if-at-index.false ∙ value in
     let process = ap (λ (a : At). a.process) c.at_of-at.ensures in
     let marks : c.running-running.result.now ≡ marks_at k (at_of e).process = c.running-running.ensures ∙ ap (marks_at k) process in
-    (so.kept, (call_within script before g.s k finished e so call called, (user_kept script before g.s k finished e so call called, is_next script before g.s k finished e so call called same c.running-running.result.now marks
-    c.fits_call.result c.fits_call.ensures c.if-not-fits_call.false c.is_first_of_kind.result c.is_first_of_kind.ensures
-    c.if-not-is_first_of_kind.false)))
+    let within = call_within script before g.s k finished e so call called in
+    let user = user_kept script before g.s k finished e so call called in (
+      so.kept,
+      (
+        within,
+        (
+          user,
+          is_next script before g.s k finished e so call called same c.running-running.result.now marks
+              c.fits_call.result c.fits_call.ensures c.if-not-fits_call.false c.is_first_of_kind.result c.is_first_of_kind.ensures
+              c.if-not-is_first_of_kind.false,
+        ),
+      ),
+    )
 
 pub returns-in_err-apply-clause-broken : goal.returns-in_err-apply-clause-broken
 returns-in_err-apply-clause-broken g c rule entry is there_is =
