@@ -1,19 +1,11 @@
 -- Lemmas of the plain store.
-pub mod PartSets
-pub mod MarkLemmas
 pub mod Decisions
-pub mod PairCounts
 pub mod JournalWork
 pub mod FirstEntries
-pub mod MarkRanges
-pub mod KernelPieces
 pub mod NextEntries
 pub mod DecidedRights
 pub mod KeptRules
-pub mod CountedRows
 pub mod OpenDescriptors
-pub mod AllPairs
-pub mod CountedRights
 pub mod OneVerdict
 pub mod StartStores
 pub mod ReadyChanges

@@ -12,7 +12,7 @@ use Rattle.bd_entry.specs.declared.entry.Entry.{Entry}
 use Rattle.bd_entry.specs.Calls.{Place, at_of}
 use Rattle.bd_entry.specs.Rules.{EntryRule, FitsStore, entry_rule_number, place_in}
 use Rattle.bd_entry.specs.Store.{Descriptor, Store, Valid, start_store, work_of}
-use Rattle.bd_store.specs.Marks.{AreMarksOf, Marks}
+use Rattle.bd_kernel.specs.Marks.{AreMarksOf, Marks}
 
 -- a store with marks of the entries of each running call in their place
 pub record Kept : Type 0 where

@@ -7,7 +7,7 @@ ghost use Rattle.bd_entry.specs.Effects.{after_access, after_telling, with_bytes
 ghost use Rattle.bd_entry.specs.Store.{size_at, with_descriptor};
 ghost use Rattle.bd_store.specs.Kept.{marks_at};
 ghost use Rattle.bd_store.specs.Kinds.{ends_by_pieces};
-ghost use Rattle.bd_store.specs.Marks.{AreMarksOf, HasKeyOf, HasPieceOf, HasRoom};
+ghost use Rattle.bd_kernel.specs.Marks.{AreMarksOf, HasKeyOf, HasPieceOf, HasRoom};
 ghost use Rattle.bd_store.specs.Steps.{CanChange, CreatesFile, kept_as, with_noted};
 ghost use Rattle.std.specs.Prelude.{◌≡◌, ◌<◌, ◌≤◌, ◌+◌, ◌*◌, ◌%◌, ◌/◌, None, Some, IsSome, OnOk, OnErr, length, replicate};
 ghost use Rattle.bd_base.specs.Scripts.{IsCall};

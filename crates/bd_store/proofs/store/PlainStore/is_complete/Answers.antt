@@ -1,7 +1,7 @@
 use Rattle.std.proofs.Common.{◌≡◌, ℕ, true, false, Option, Some, sym, ap, ◌∙◌}
 use Rattle.std.specs.Prelude.{is_some}
 use Rattle.bd_entry.specs.Store.{Descriptor, Holder, first_holder, first_plain, has_fragment, has_plain, is_plain_of, lowest_unattached}
-use Rattle.bd_store.specs.Changes.{Rows}
+use Rattle.bd_kernel.specs.Changes.{Rows}
 use Rattle.bd_store.specs.Kept.{bare}
 use Rattle.bd_store.proofs.DecidedRights.{no_next-fragment, no_next-plain}
 use Rattle.bd_store.proofs.store.PlainStore.is_complete.Goals as goal

@@ -7,7 +7,7 @@ use Rattle.bd_entry.specs.Calls.{piece_of_call, pieces_of_call}
 use Rattle.bd_entry.specs.Refusals.{is_next_for_kernel}
 use Rattle.bd_entry.specs.Rules.{place_in}
 use Rattle.bd_store.specs.Kept.{store_of}
-use Rattle.bd_store.proofs.KernelPieces.{kernel_piece-first, kernel_piece-none, next_for_kernel-at}
+use Rattle.bd_kernel.proofs.KernelPieces.{kernel_piece-first, kernel_piece-none, next_for_kernel-at}
 use Rattle.bd_store.proofs.store.PlainStore.kernel_piece.Goals as goal
 
 -- an element of one list is that of the same list under another name

@@ -1,0 +1,4 @@
+-- The words of the contracts of kernel calls.
+pub mod PartMarks
+pub mod Changes
+pub mod Marks
