@@ -7,3 +7,4 @@ pub mod CountedRights
 pub mod MarkRanges
 pub mod MarkLemmas
 pub mod KernelPieces
+pub mod NextParts

@@ -2,3 +2,4 @@
 pub mod PartMarks
 pub mod Changes
 pub mod Marks
+pub mod Sights

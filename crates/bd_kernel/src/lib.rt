@@ -5,6 +5,9 @@ mod calls;
 mod descriptor;
 mod marks;
 mod part_set;
+mod place;
+mod refusals;
+mod rights;
 mod row;
 mod running_call;
 mod table;
@@ -14,5 +17,11 @@ pub use calls::{
 };
 pub use descriptor::{Change, Descriptor};
 pub use part_set::PartSet;
+pub use place::{
+    block_count, descriptor_of, fd_of, file_of, goal_of, is_direct, kernel_number, kernel_piece, next_size,
+    part_count, size_of,
+};
+pub use refusals::{first_refusal, growth_reason, open_denial};
+pub use rights::{lowest_unattached, next_part};
 pub use running_call::RunningCall;
 pub use table::{DescriptorTable, Holder};

@@ -1,5 +1,5 @@
 //! The descriptors of all processes, and how many pairs of a file and a part have a right.
-ghost use Rattle.std.specs.Prelude.{◌≡◌, ◌<◌, ◌≤◌, ◌||◌, ℕ, true, [], None, IfOk, IsSome, length, nat_lt, position, replicate, slice_index_or};
+ghost use Rattle.std.specs.Prelude.{◌≡◌, ◌<◌, ◌≤◌, ◌||◌, ℕ, true, [], None, IfOk, IsSome, is_some, length, nat_lt, position, replicate, slice_index_or};
 ghost use Rattle.std.specs.List.{list_any};
 ghost use Rattle.std.specs.Option.{option_copied};
 ghost use Rattle.bd_base.specs.declared.limits.TheConstants.{DESCRIPTORS, FRAGMENTS, PROCESSES};
@@ -102,6 +102,13 @@ impl DescriptorTable {
             }
         }
         None
+    }
+
+    /// Whether some process has the file open by the kernel alone.
+    pub fn has_plain(&self, file: FileId) -> bool
+        ensures { result ≡ is_some (first_holder (is_plain_of file) 0 self.now) }
+    {
+        self.first_plain(file).is_some()
     }
 
     /// Whether some right on the file is attached.
