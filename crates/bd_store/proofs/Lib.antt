@@ -13,3 +13,4 @@ pub mod CallEnds
 pub mod KeptSteps
 pub mod Starts
 pub mod Applies
+pub mod Sights

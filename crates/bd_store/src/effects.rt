@@ -22,12 +22,12 @@ ghost use Rattle.bd_entry.specs.Store.{Store, slots_of, work_of};
 ghost use Rattle.bd_store.specs.Kept.{AtPlace, Represents, bare};
 ghost use Rattle.bd_store.specs.Steps.{IsReady};
 
-use crate::calls::{is_end_of, pieces_of};
-use crate::descriptor::Descriptor;
+use crate::calls::is_end_of;
 use crate::store::PlainStore;
 use bd_base::{At, BLOCK_SIZE, BlockNo, Call, Fd, FileId, Name, OutOfMemory, Pid, Range, Way};
 use bd_entry::{Entry, at_of};
 use bd_fs::{CreateError, GrowError};
+use bd_kernel::{Descriptor, pieces_of};
 
 impl PlainStore {
     /// Applies an entry that keeps the rules. After an error the store is as before.
