@@ -8,3 +8,4 @@ pub mod MarkRanges
 pub mod MarkLemmas
 pub mod KernelPieces
 pub mod NextParts
+pub mod KeyLists

@@ -3,3 +3,5 @@ pub mod PartMarks
 pub mod Changes
 pub mod Marks
 pub mod Sights
+pub mod Holders
+pub mod Turns

@@ -1,12 +1,11 @@
 -- What is decided from files and descriptors alone, whatever else a store holds.
-use Rattle.std.specs.Prelude.{◌≡◌, ℕ, List, []}
+use Rattle.std.specs.Prelude.{◌≡◌, ℕ, Option, List, []}
 use Rattle.bd_base.specs.declared.script.Call.{Call}
 use Rattle.bd_entry.specs.declared.entry.Entry.{Entry}
-use Rattle.bd_entry.specs.Calls.{Place}
+use Rattle.bd_entry.specs.Calls.{Place, opened_fd}
 use Rattle.bd_entry.specs.Store.{Store, user_of}
 use Rattle.bd_fs.specs.Files.{Files}
 use Rattle.bd_kernel.specs.Changes.{Rows}
-use Rattle.bd_kernel.specs.Marks.{AreMarksOf, Marks}
 
 -- the store of these files and descriptors, with these users, bytes and entries of running calls
 abbrev pub store_of : Files → Rows → List ℕ → List ℕ → List (List Entry) → Store
@@ -34,8 +33,10 @@ abbrev pub place_of : Call → ℕ → ℕ → List Entry → Place
 place_of call process number before =
     record { call = call; at = record { process = process; call = number }; before = before }
 
--- this holds at the place of the call's next entry in each of them, whatever its entries are that have these marks
-abbrev pub AtPlace : Files → Rows → Call → ℕ → Marks → (Store → Place → Type 0) → Type 0
-AtPlace fs rows call process marks Holds =
+-- this holds at the place of the call's next entry in each of them, whatever its entries are of which this is the
+-- descriptor that they opened
+abbrev pub AtPlace : Files → Rows → Call → ℕ → Option ℕ → (Store → Place → Type 0) → Type 0
+AtPlace fs rows call process opened Holds =
     InStore fs rows
-    (λ s. (number : ℕ) (before : List Entry) → AreMarksOf marks before → Holds s (place_of call process number before))
+    (λ s. (number : ℕ) (before : List Entry) → opened ≡ opened_fd before →
+    Holds s (place_of call process number before))

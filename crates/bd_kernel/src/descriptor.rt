@@ -2,13 +2,16 @@
 ghost use Rattle.std.specs.List.{list_any};
 ghost use Rattle.bd_entry.specs.Store.{is_empty_slot};
 ghost use Rattle.bd_kernel.specs.Changes.{uses_pair};
-ghost use Rattle.std.specs.Prelude.{◌≡◌, None, Some, []};
+ghost use Rattle.std.specs.Prelude.{◌≡◌, ◌+◌, ◌≤◌, ◌++◌, None, Some, [], length, nat_eq};
+ghost use Rattle.bd_base.specs.declared.key_list.TheConstants.{MOST_KEYS};
+ghost use Rattle.bd_base.specs.declared.limits.TheConstants.{PARTS};
+ghost use Rattle.bd_entry.specs.Actions.{keys_of_slot};
 ghost use Rattle.std.specs.Option.{option_map};
 ghost use Rattle.bd_entry.specs.Store.{has_part, has_rights, is_attached_of, is_open_of, is_plain, is_plain_of};
 ghost use Rattle.bd_kernel.specs.Changes.{changed};
 
 use crate::part_set::PartSet;
-use bd_base::{FileId, How, Mode, Part};
+use bd_base::{Fd, FileId, How, KeyList, Mode, Part, Pid};
 use std::marker::Model;
 
 /// An open descriptor.
@@ -150,5 +153,24 @@ pub fn has_pair(file: FileId, part: Part, slot: &Option<Descriptor>) -> bool
     match slot {
         Some(descriptor) => descriptor.file == file && descriptor.attached.contains(part.get()),
         None => false,
+    }
+}
+
+/// Appends the keys of the rights of the descriptor in a slot, where it is one of the file.
+pub fn push_slot_keys(
+    slot: &Option<Descriptor>,
+    keys: &mut KeyList,
+    process: Pid,
+    fd: Fd,
+    file: FileId,
+)
+    requires { length keys.old + PARTS ≤ MOST_KEYS }
+    ensures keys { keys.new ≡ keys.old ++ keys_of_slot (λ d. nat_eq d.file file) process fd slot.now }
+    ensures few { length keys.new ≤ length keys.old + PARTS }
+{
+    if let Some(descriptor) = slot
+        && descriptor.file == file
+    {
+        descriptor.attached.push_keys(keys, process, fd);
     }
 }

@@ -1,11 +1,13 @@
 //! A set of parts of a file.
-ghost use Rattle.std.specs.Prelude.{◌≡◌, ◌≤◌, [], find, length, not};
+ghost use Rattle.std.specs.Prelude.{◌≡◌, ◌+◌, ◌<◌, ◌≤◌, [], ◌∷◌, ◌++◌, cond, find, length, map, not};
 ghost use Rattle.std.specs.List.{range_with_len};
+ghost use Rattle.bd_base.specs.declared.key_list.TheConstants.{MOST_KEYS};
 ghost use Rattle.bd_base.specs.declared.limits.TheConstants.{PARTS};
+ghost use Rattle.bd_kernel.specs.PartMarks.{marked_from};
 ghost use Rattle.bd_entry.specs.Store.{has_part, with_part, without_part};
 
 use crate::marks::{count_marks, is_marked};
-use bd_base::{PARTS, Part};
+use bd_base::{Fd, Key, KeyList, PARTS, Part, Pid};
 use std::marker::Model;
 
 /// How many parts there are.
@@ -59,9 +61,20 @@ impl PartSet {
 
     /// How many these are.
     pub fn count(&self) -> usize
-        ensures { result ≡ length self.now }
+        ensures count { result ≡ length self.now }
+        ensures few { result ≤ PARTS }
     {
         count_marks(&self.marks)
+    }
+
+    /// Appends the keys of a descriptor's rights on these parts to a list with room for them.
+    pub fn push_keys(&self, keys: &mut KeyList, process: Pid, fd: Fd)
+        requires { length keys.old + PARTS ≤ MOST_KEYS }
+        ensures keys { keys.new ≡ keys.old
+            ++ map (λ part. record { process = process; fd = fd; part = part }) self.now }
+        ensures few { length keys.new ≤ length keys.old + PARTS }
+    {
+        push_marked(&self.marks, keys, process, fd);
     }
 
     /// The lowest part below this number that is not among these.
@@ -75,5 +88,32 @@ impl PartSet {
             }
         }
         None
+    }
+}
+
+/// Appends the keys of a descriptor's rights on the parts whose marks are set.
+fn push_marked(marks: &[bool], keys: &mut KeyList, process: Pid, fd: Fd)
+    requires parts { length marks.now ≤ PARTS }
+    requires room { length keys.old + length marks.now ≤ MOST_KEYS }
+    ensures keys { keys.new ≡ keys.old
+        ++ map (λ part. record { process = process; fd = fd; part = part }) (marked_from 0 marks.now) }
+    ensures few { length keys.new ≤ length keys.old + length marks.now }
+{
+    for (number, mark) in marks.iter().enumerate() {
+        push_where(keys, *mark, process, fd, number);
+    }
+}
+
+/// Appends the key of a descriptor's right on the part of this number, where it is marked.
+fn push_where(keys: &mut KeyList, marked: bool, process: Pid, fd: Fd, number: usize)
+    requires part { number < PARTS }
+    requires room { length keys.old < MOST_KEYS }
+    ensures keys { keys.new ≡ keys.old
+        ++ map (λ part. record { process = process; fd = fd; part = part }) (cond marked (number ∷ []) []) }
+    ensures few { length keys.new ≤ length keys.old + 1 }
+{
+    if marked {
+        let part = Part::new(number as u64).unwrap();
+        keys.push(Key { process, fd, part });
     }
 }

@@ -1,21 +1,21 @@
 //! What stands at the place of a call's next entry: its descriptor and its file, and the pieces that are left.
-ghost use Rattle.std.specs.Prelude.{◌≡◌, ℕ, ◌<◌, ◌≤◌, ◌&&◌, Some, List, length, not};
-ghost use Rattle.std.specs.List.{find, range_with_len};
+ghost use Rattle.std.specs.Prelude.{◌≡◌, ◌<◌, ◌≤◌, ◌&&◌, [], Some, List, length, not};
+ghost use Rattle.std.specs.List.{find};
 ghost use Rattle.std.specs.Option.{option_and_then, option_copied, option_map};
 ghost use Rattle.bd_base.specs.declared.limits.TheConstants.{FILE_BLOCKS, FILE_SIZE, PARTS};
 ghost use Rattle.bd_base.specs.Files.{parts_for};
 ghost use Rattle.bd_base.specs.Inodes.{blocks_of_slot, inode_at};
 ghost use Rattle.bd_base.specs.Scripts.{IsCall};
 ghost use Rattle.bd_entry.specs.declared.entry.Entry.{Entry};
-ghost use Rattle.bd_entry.specs.Calls.{fd_of_call, is_answered, pieces_of_call};
+ghost use Rattle.bd_entry.specs.Actions.{piece_numbers};
+ghost use Rattle.bd_entry.specs.Calls.{Place, fd_of_call, is_answered, opened_fd};
 ghost use Rattle.bd_entry.specs.Refusals.{descriptor_of, file_of, goal_of, goes_direct, is_for_kernel, is_next_for_kernel, kernel_piece, next_size};
 ghost use Rattle.bd_entry.specs.Store.{size_at};
 ghost use Rattle.bd_fs.specs.Files.{Files};
-ghost use Rattle.bd_base.specs.declared.script.Call.{Call};
-ghost use Rattle.bd_entry.specs.Store.{Descriptor};
-ghost use Rattle.bd_kernel.specs.Changes.{Rows, slot_at};
-ghost use Rattle.bd_kernel.specs.Marks.{AreMarksOf};
+ghost use Rattle.bd_entry.specs.Store.{Descriptor, Store};
+ghost use Rattle.bd_kernel.specs.Changes.{slot_at};
 ghost use Rattle.bd_kernel.specs.Sights.{AtPlace};
+ghost use Rattle.bd_kernel.specs.Turns.{ArePieceMarksOf};
 
 use crate::calls::{fd_of_call, piece_end, piece_of, pieces_of};
 use crate::descriptor::Descriptor;
@@ -35,13 +35,6 @@ pub fn is_direct(descriptor: &Descriptor, piece: Piece) -> bool
     }
 }
 
-/// The number of the descriptor of the call, of which this is kept.
-pub fn fd_of(call: &Call, running: &RunningCall) -> Option<u8>
-    ensures { (entries : List Entry) → AreMarksOf running.now entries → result ≡ fd_of_call call.now entries }
-{
-    fd_of_call(call, running.opened())
-}
-
 /// The descriptor of the process's call, where it is open.
 pub fn descriptor_of<'a>(
     table: &'a DescriptorTable,
@@ -49,10 +42,10 @@ pub fn descriptor_of<'a>(
     process: Pid,
     running: &RunningCall,
 ) -> Option<&'a Descriptor>
-    ensures { (entries : List Entry) → AreMarksOf running.now entries →
+    ensures { (entries : List Entry) → running.now.opened ≡ opened_fd entries →
         option_copied result ≡ option_and_then (slot_at table.now process) (fd_of_call call.now entries) }
 {
-    let fd = fd_of(call, running)?;
+    let fd = fd_of_call(call, running.opened())?;
     table.get(process, fd)
 }
 
@@ -64,7 +57,7 @@ pub fn file_of(
     process: Pid,
     running: &RunningCall,
 ) -> Option<FileId>
-    ensures { AtPlace fs.now table.now call.now process running.now (λ s p. result ≡ file_of s p) }
+    ensures { AtPlace fs.now table.now call.now process running.now.opened (λ s p. result ≡ file_of s p) }
 {
     match call {
         Call::Enter { name, .. } | Call::Unlink { name } => fs.lookup(name),
@@ -95,8 +88,8 @@ pub fn kernel_number(
     running: &RunningCall,
 ) -> Option<u8>
     requires { IsCall call.now }
-    ensures { (fs : Files) → AtPlace fs table.now call.now process running.now (λ s p.
-        result ≡ find (is_next_for_kernel s p) (range_with_len 0 (length (pieces_of_call call.now)))) }
+    ensures { (fs : Files) → AtPlace fs table.now call.now process running.now.opened (λ s p.
+        ArePieceMarksOf running.now [] p.before → result ≡ find (is_next_for_kernel s p) (piece_numbers call.now)) }
 {
     let pieces = pieces_of(call);
     let descriptor = descriptor_of(table, call, process, running);
@@ -116,9 +109,9 @@ fn is_next_for_kernel(
     number: u8,
     piece: Piece,
 ) -> bool
-    ensures { (fs : Files) (rows : Rows) (call : Call) (process : ℕ) → AtPlace fs rows call process running.now (λ s p.
-        option_copied descriptor.entry ≡ descriptor_of s p
-        → result ≡ (not (is_answered number p.before) && is_for_kernel s p number piece)) }
+    ensures { (s : Store) (p : Place) → ArePieceMarksOf running.now [] p.before
+        → option_copied descriptor.entry ≡ descriptor_of s p
+        → result ≡ (not (is_answered number p.before) && is_for_kernel s p number piece) }
 {
     if running.is_answered(number) {
         return false;
@@ -138,8 +131,8 @@ pub fn kernel_piece(
     running: &RunningCall,
 ) -> Option<Piece>
     requires { IsCall call.now }
-    ensures { (fs : Files) → AtPlace fs table.now call.now process running.now
-        (λ s p. result ≡ kernel_piece s p) }
+    ensures { (fs : Files) → AtPlace fs table.now call.now process running.now.opened
+        (λ s p. ArePieceMarksOf running.now [] p.before → result ≡ kernel_piece s p) }
 {
     let number = kernel_number(table, call, process, running)?;
     piece_of(call, number)
@@ -153,7 +146,8 @@ pub fn goal_of(
     running: &RunningCall,
 ) -> Option<u64>
     requires { IsCall call.now }
-    ensures { (fs : Files) → AtPlace fs table.now call.now process running.now (λ s p. result ≡ goal_of s p) }
+    ensures { (fs : Files) → AtPlace fs table.now call.now process running.now.opened
+        (λ s p. ArePieceMarksOf running.now [] p.before → result ≡ goal_of s p) }
 {
     match call {
         Call::Truncate { size, .. } => Some(*size),

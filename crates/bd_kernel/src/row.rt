@@ -1,15 +1,18 @@
 //! The descriptors of one process.
-ghost use Rattle.std.specs.Prelude.{◌≡◌, ◌<◌, ℕ, None, Some, IfOk, IfSome, length, position, replicate, slice_set};
-ghost use Rattle.std.specs.List.{list_any};
+ghost use Rattle.std.specs.Prelude.{◌≡◌, ◌+◌, ◌*◌, ◌<◌, ◌≤◌, ◌++◌, ℕ, nat_eq, None, Some, IfOk, IfSome, length, position, replicate, slice_set};
+ghost use Rattle.std.specs.List.{enumerate_from, flat_map, list_any};
+ghost use Rattle.bd_base.specs.declared.key_list.TheConstants.{MOST_KEYS};
+ghost use Rattle.bd_entry.specs.Actions.{keys_of_slot};
 ghost use Rattle.std.specs.Option.{option_copied, option_map};
-ghost use Rattle.bd_base.specs.declared.limits.TheConstants.{DESCRIPTORS};
+ghost use Rattle.bd_base.specs.declared.limits.TheConstants.{DESCRIPTORS, PARTS};
 ghost use Rattle.bd_entry.specs.Store.{in_slot, is_attached_of, is_empty_slot, is_open_of, is_plain_of};
 ghost use Rattle.bd_kernel.specs.Changes.{changed, uses_pair};
 
 use crate::descriptor::{
     Change, Descriptor, change_slot, has_pair, is_attached_of, is_empty, is_open_of, is_plain_of,
+    push_slot_keys,
 };
-use bd_base::{DESCRIPTORS, Fd, FileId, OutOfMemory, Part};
+use bd_base::{DESCRIPTORS, Fd, FileId, KeyList, OutOfMemory, Part, Pid};
 use std::alloc::Global;
 use std::marker::Model;
 
@@ -88,6 +91,16 @@ impl Row {
         self.slots.iter().any(|slot| has_pair(file, part, slot))
     }
 
+    /// Appends the keys of the rights of the process's descriptors of the file to a list with room for them.
+    pub fn push_keys(&self, keys: &mut KeyList, process: Pid, file: FileId)
+        requires { length keys.old + DESCRIPTORS * PARTS ≤ MOST_KEYS }
+        ensures keys { keys.new ≡ keys.old ++ flat_map
+            (λ slot. keys_of_slot (λ d. nat_eq d.file file) process slot.0 slot.1) (enumerate_from 0 self.now) }
+        ensures few { length keys.new ≤ length keys.old + DESCRIPTORS * PARTS }
+    {
+        push_keys_of(&self.slots, keys, process, file);
+    }
+
     /// Puts this into the slot of a number.
     pub fn put(&mut self, fd: Fd, slot: Option<Descriptor>)
         ensures { self.new ≡ slice_set self.old fd slot }
@@ -127,4 +140,18 @@ fn first_plain(file: FileId, slots: &[Option<Descriptor>]) -> Option<usize>
     ensures within { IfSome result (λ number. number < length slots.now) }
 {
     slots.iter().position(|slot| is_plain_of(file, slot))
+}
+
+/// Appends the keys of the rights of the descriptors of the file in slots.
+fn push_keys_of(slots: &[Option<Descriptor>], keys: &mut KeyList, process: Pid, file: FileId)
+    requires slots { length slots.now ≤ DESCRIPTORS }
+    requires room { length keys.old + DESCRIPTORS * PARTS ≤ MOST_KEYS }
+    ensures keys { keys.new ≡ keys.old ++ flat_map
+        (λ slot. keys_of_slot (λ d. nat_eq d.file file) process slot.0 slot.1) (enumerate_from 0 slots.now) }
+    ensures few { length keys.new ≤ length keys.old + DESCRIPTORS * PARTS }
+{
+    for (number, slot) in slots.iter().enumerate() {
+        let fd = Fd::new(number as u64).unwrap();
+        push_slot_keys(slot, keys, process, fd, file);
+    }
 }

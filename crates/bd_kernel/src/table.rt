@@ -3,14 +3,16 @@ ghost use Rattle.std.specs.Prelude.{◌≡◌, ◌<◌, ◌≤◌, ◌||◌, ℕ
 ghost use Rattle.std.specs.List.{list_any};
 ghost use Rattle.std.specs.Option.{option_copied};
 ghost use Rattle.bd_base.specs.declared.limits.TheConstants.{DESCRIPTORS, FRAGMENTS, PROCESSES};
+ghost use Rattle.bd_entry.specs.Actions.{keys_by, keys_on};
 ghost use Rattle.bd_entry.specs.Effects.{attach, clear, detach};
+ghost use Rattle.bd_kernel.specs.Sights.{bare, no_files};
 ghost use Rattle.bd_entry.specs.Store.{first_holder, has_part, is_attached_of, is_empty_slot, is_open_of, is_plain_of, pairs_of_slot, same_pair};
 ghost use Rattle.bd_kernel.specs.Changes.{changed, changed_rows, has_right, pairs_of_rows, rows_with_slot, slot_at, uses_pair};
 ghost use Rattle.bd_kernel.specs.declared.descriptor.Change.TheVariants.{Know, Tell};
 
 use crate::descriptor::{Change, Descriptor};
 use crate::row::Row;
-use bd_base::{FILES, FRAGMENTS, Fd, FileId, OutOfMemory, PARTS, Part, Pid};
+use bd_base::{FILES, FRAGMENTS, Fd, FileId, KeyList, OutOfMemory, PARTS, Part, Pid};
 use std::alloc::Global;
 use std::marker::Model;
 
@@ -127,6 +129,26 @@ impl DescriptorTable {
         has_pair(&self.rows, file, part) || (self.pairs as u64) < FRAGMENTS
     }
 
+    /// The keys of all rights on the file, by process, descriptor and part.
+    pub fn keys_on(&self, file: FileId) -> KeyList
+        ensures { result ≡ keys_on (bare no_files self.now) file }
+    {
+        keys_on(&self.rows, file)
+    }
+
+    /// The keys of the rights of one descriptor, by part.
+    pub fn keys_by(&self, process: Pid, fd: u8) -> KeyList
+        ensures { result ≡ keys_by (bare no_files self.now) process fd }
+    {
+        let mut keys = KeyList::new();
+        if let Some(descriptor) = self.get(process, fd)
+            && let Some(fd) = Fd::new(u64::from(fd))
+        {
+            descriptor.attached.push_keys(&mut keys, process, fd);
+        }
+        keys
+    }
+
     /// A descriptor without rights is opened under a number that is not open, or one without rights is closed.
     pub fn put(&mut self, process: Pid, fd: Fd, slot: Option<Descriptor>)
         requires process { process < length self.old }
@@ -212,4 +234,17 @@ fn change_row(rows: &mut [Row], process: Pid, fd: u8, change: Change)
     if index < rows.len() {
         rows[index].change(fd, change);
     }
+}
+
+/// The keys of all rights on the file.
+fn keys_on(rows: &[Row], file: FileId) -> KeyList
+    requires { length rows.now ≤ PROCESSES }
+    ensures { result ≡ keys_on (bare no_files rows.now) file }
+{
+    let mut keys = KeyList::new();
+    for (number, row) in rows.iter().enumerate() {
+        let process = Pid::new(number as u64).unwrap();
+        row.push_keys(&mut keys, process, file);
+    }
+    keys
 }

@@ -15,7 +15,7 @@ item-of xs ys i x same within is =
     subst (λ (zs : List Piece). slice_get zs i ≡ Some x) same (slice_get_read xs (length xs) i x refl within is)
 
 pub returns-then-is_next_for_kernel : goal.returns-then-is_next_for_kernel
-returns-then-is_next_for_kernel c = λ fs uids bytes work call_number before marks.
+returns-then-is_next_for_kernel c = λ fs uids bytes work call_number before opens marks.
     let s = store_of fs c.args.table.now uids bytes work in
     let p = place_of c.args.call.now c.args.process call_number before in
     let number = c.loop-number.number in
@@ -25,13 +25,12 @@ returns-then-is_next_for_kernel c = λ fs uids bytes work call_number before mar
     item-of xs.result.now (pieces_of_call c.args.call.now) number piece (xs.ensures ∙ c.pieces_of-pieces.ensures) c.loop-number-test.true c.piece-item.is in
     let here =
     next_for_kernel-at s p number piece at c.is_next_for_kernel.result
-    (c.is_next_for_kernel.ensures fs c.args.table.now c.args.call.now c.args.process uids bytes work call_number before marks
-    (c.descriptor_of-descriptor.ensures before marks)) in
+    (c.is_next_for_kernel.ensures s p marks (c.descriptor_of-descriptor.ensures before (c.opened.ensures ∙ opens))) in
     kernel_number-first s p number piece at (here ∙ c.if-is_next_for_kernel.true)
-    (λ k below. c.loop-number.invariant k below fs uids bytes work call_number before marks)
+    (λ k below. c.loop-number.invariant k below fs uids bytes work call_number before opens marks)
 
 pub loop-number-preserved : goal.loop-number-preserved
-loop-number-preserved c = λ k below fs uids bytes work call_number before marks.
+loop-number-preserved c = λ k below fs uids bytes work call_number before opens marks.
     let s = store_of fs c.args.table.now uids bytes work in
     let p = place_of c.args.call.now c.args.process call_number before in
     let number = c.loop-number.number in
@@ -41,19 +40,18 @@ loop-number-preserved c = λ k below fs uids bytes work call_number before marks
     item-of xs.result.now (pieces_of_call c.args.call.now) number piece (xs.ensures ∙ c.pieces_of-pieces.ensures) c.loop-number-test.true c.piece-item.is in
     let here =
     next_for_kernel-at s p number piece at c.is_next_for_kernel.result
-    (c.is_next_for_kernel.ensures fs c.args.table.now c.args.call.now c.args.process uids bytes work call_number before marks
-    (c.descriptor_of-descriptor.ensures before marks)) in
+    (c.is_next_for_kernel.ensures s p marks (c.descriptor_of-descriptor.ensures before (c.opened.ensures ∙ opens))) in
     elim (cases_eq k number) [
       | inl same ↦ ap (is_next_for_kernel s p) same ∙ here ∙ c.if-is_next_for_kernel.false
-      | inr other ↦ c.loop-number.invariant k (omega arith) fs uids bytes work call_number before marks
+      | inr other ↦ c.loop-number.invariant k (omega arith) fs uids bytes work call_number before opens marks
     ]
 
 pub returns : goal.returns
-returns c = λ fs uids bytes work call_number before marks.
+returns c = λ fs uids bytes work call_number before opens marks.
     let s = store_of fs c.args.table.now uids bytes work in
     let p = place_of c.args.call.now c.args.process call_number before in
     let xs = c.as_slice-piece-items in
     let all : length xs.result.now ≡ length (pieces_of_call c.args.call.now) =
     ap (λ (ys : List Piece). length ys) (xs.ensures ∙ c.pieces_of-pieces.ensures) in
     kernel_number-none s p
-    (λ k below. c.loop-number.invariant k (omega (arith, all, c.loop-number-test.false, below)) fs uids bytes work call_number before marks)
+    (λ k below. c.loop-number.invariant k (omega (arith, all, c.loop-number-test.false, below)) fs uids bytes work call_number before opens marks)
