@@ -2,6 +2,8 @@
 use Rattle.std.proofs.Common.{◌≡◌, ℕ, zero, suc, ◌+◌, ◌<◌, ◌≤◌, Bool, true, false, ◌&&◌, cond, Option, None, Some, List, [], ◌∷◌, ◌++◌, length, map, filter, take, get_or, refl, sym, ap, ◌∙◌, arith, eq-eqb, ne_eqb}
 use Rattle.std.specs.Prelude.{nat_eq}
 use Rattle.std.specs.List.{enumerate_from, flat_map}
+use Rattle.std.specs.Option.{option_map}
+use Rattle.std.proofs.lemmas.Option.{none-some, same_Some}
 use Rattle.std.proofs.lemmas.Bool.{and_from, and_left, and_right}
 use Rattle.std.proofs.lemmas.List.{append-nil, append_assoc, get_or_default, map-append}
 use Rattle.std.proofs.lemmas.List.Elements.{filter-append}
@@ -175,3 +177,25 @@ module _ (p fd : ℕ) where
   -- the keys of a descriptor among all keys
   pub keys_by-slot : (rows : Rows) → keys_by (bare no_files rows) p fd ≡ keys_of_slot (λ d. true) p fd (slot_at rows p fd)
   keys_by-slot rows = rows_own 0 p rows (omega arith)
+
+-- a descriptor that is not open has no key
+pub no_keys : (rows : Rows) (p fd : ℕ) → slot_at rows p fd ≡ None → [] ≡ keys_by (bare no_files rows) p fd
+no_keys rows p fd none =
+    sym (keys_by-slot p fd rows ∙ ap (keys_of_slot (λ d. true) p fd) none)
+
+-- the number under which a descriptor is open is its own
+pub same_number : (p number fd : ℕ) (slot : Option Descriptor) → Some number ≡ option_map (λ _. fd) slot →
+    keys_of_slot (λ d. true) p number slot ≡ keys_of_slot (λ d. true) p fd slot
+same_number p number fd None is = refl
+same_number p number fd (Some d) is = ap (λ (n : ℕ). keys_of_slot (λ d. true) p n (Some d)) (same_Some number fd is)
+
+-- what stands in a slot stands within the list
+pub slot-within : {X : Type 0} (slots : List (Option X)) (i : ℕ) (x : X) → in_slot slots i ≡ Some x → i < length slots
+slot-within [] i x is = absurd (none-some x is)
+slot-within (slot ∷ slots) zero x is = omega arith
+slot-within (slot ∷ slots) (suc i) x is = omega (arith, slot-within slots i x is)
+
+-- what is found nothing for is nothing
+pub not_open : {X Y : Type 0} (o : Option X) (y : Y) → option_map (λ _. y) o ≡ None → o ≡ None
+not_open None y none = refl
+not_open (Some x) y none = absurd (none-some y (sym none))

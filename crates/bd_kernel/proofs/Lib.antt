@@ -9,3 +9,4 @@ pub mod MarkLemmas
 pub mod KernelPieces
 pub mod NextParts
 pub mod KeyLists
+pub mod Acts

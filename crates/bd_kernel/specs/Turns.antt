@@ -1,12 +1,12 @@
 -- What a running call keeps of its entries and of its commands.
-use Rattle.std.specs.Prelude.{◌≡◌, ℕ, ◌<◌, ◌≤◌, Bool, true, false, nat_eq, nat_lt, Option, None, Some, List, [], length}
+use Rattle.std.specs.Prelude.{◌≡◌, ℕ, ◌<◌, ◌≤◌, Bool, true, false, ◌&&◌, nat_eq, nat_lt, Option, None, Some, List, [], length}
 use Rattle.std.specs.List.{list_any}
 use Rattle.bd_base.specs.declared.limits.TheConstants.{PIECES}
 use Rattle.bd_base.specs.declared.script.Call.{Call}
 use Rattle.bd_base.specs.Scripts.{IsCall}
 use Rattle.bd_entry.specs.declared.act.Act.{Act}
 use Rattle.bd_entry.specs.declared.entry.Entry.{Entry}
-use Rattle.bd_entry.specs.Actions.{next_act}
+use Rattle.bd_entry.specs.Actions.{Running, is_for_device, is_untouched, next_act}
 use Rattle.bd_entry.specs.Calls.{has_missed, is_answered, opened_fd}
 use Rattle.bd_entry.specs.Store.{Store, user_of}
 use Rattle.bd_fs.specs.Files.{Files}
@@ -23,6 +23,10 @@ is_among number numbers = list_any (nat_eq number) numbers
 pub record ArePieceMarksOf (m : Marks) (outstanding : List ℕ) (entries : List Entry) : Type 0 where
   pub answered : (piece : ℕ) → is_among piece outstanding ≡ false → is_marked m.answered piece ≡ is_answered piece entries
   pub missed : (piece : ℕ) → is_among piece outstanding ≡ false → is_marked m.missed piece ≡ has_missed piece entries
+
+-- whether the piece of this number is to be submitted: it goes to the device, and is untouched
+abbrev pub may_submit : Store → Running → ℕ → Bool
+may_submit s r number = is_for_device s r.place number && is_untouched r number
 
 -- a call of a process with this user, marks of its entries so far, the pieces whose commands are outstanding, and
 -- whether its last action was carried out

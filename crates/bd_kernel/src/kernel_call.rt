@@ -1,5 +1,5 @@
 //! A running call of a process, and the action that it needs next.
-ghost use Rattle.std.specs.Prelude.{◌≡◌, ℕ, ◌<◌, ◌++◌, ◌∷◌, [], true, false, IfOk, List, Some, drop, length, slice_set};
+ghost use Rattle.std.specs.Prelude.{◌≡◌, ℕ, ◌<◌, ◌++◌, ◌∷◌, [], None, cond, true, false, IfOk, List, Some, drop, length, slice_set};
 ghost use Rattle.std.specs.Option.{option_or};
 ghost use Rattle.bd_entry.specs.declared.entry.Entry.{Entry};
 ghost use Rattle.bd_base.specs.Scripts.{IsCall};
@@ -13,10 +13,8 @@ ghost use Rattle.bd_kernel.specs.Sights.{AtPlace, place_of};
 ghost use Rattle.bd_kernel.specs.Turns.{ArePieceMarksOf, AreEntriesOf, IsNextAct};
 
 use crate::beginning::before_beginning;
-use crate::calls::fd_of_call;
 use crate::descriptors::Descriptors;
-use crate::files::{attach_by, open_file, remove_file, truncate};
-use crate::place::{file_of, size_of};
+use crate::files::{attach_by, open_directly, open_file, tell_size, truncate, unlink};
 use crate::pieces::{kernel_part, submit_or_poll};
 use crate::refusals::first_refusal;
 use crate::revocation::{keys_to_revoke, revoke};
@@ -135,23 +133,14 @@ fn own_act(
         Call::Enter {
             how: How::Direct,
             ..
-        } => match fd_of_call(call, running.opened()) {
-            Some(fd) => attach_by(fs, table, process, fd),
-            None => open_file(fs, table, call, process, running),
-        },
+        } => open_directly(fs, table, call, process, running),
         Call::Create { .. } => Some(Act::Created),
         Call::Read { .. } | Call::Write { .. } => {
             pieces_act(fs, descriptors, call, process, running, outstanding)
         }
         Call::Truncate { size, .. } => truncate(fs, table, call, process, running, *size),
-        Call::Unlink { .. } => {
-            let file = file_of(fs, table, call, process, running)?;
-            Some(remove_file(fs, file))
-        }
-        Call::Size { .. } => {
-            let file = file_of(fs, table, call, process, running)?;
-            Some(Act::SizeRead(size_of(fs, file)))
-        }
+        Call::Unlink { .. } => unlink(fs, table, call, process, running),
+        Call::Size { .. } => tell_size(fs, table, call, process, running),
         Call::Map { fd } => attach_by(fs, table, process, *fd),
         Call::Close { .. } => Some(Act::Closed),
         Call::RawRead { .. } | Call::RawWrite { .. } => {
@@ -182,7 +171,7 @@ fn pieces_act(
     kernel_part(fs, descriptors, call, process, running)
 }
 
-/// What keeps the call of a process of this user from beginning.
+/// What keeps the call of a process of this user from beginning, where it has not begun.
 fn first_act(
     fs: &Fs,
     descriptors: &Descriptors,
@@ -190,11 +179,15 @@ fn first_act(
     process: Pid,
     uid: u32,
     running: &RunningCall,
+    begun: bool,
 ) -> Option<Act>
     ensures { AtPlace fs.now descriptors.now.rows call.now process running.now.opened
-        (λ s p. user_of s process ≡ uid → result
-        ≡ before_beginning s (holder_in descriptors.now.held) p (first_refusal s process call.now)) }
+        (λ s p. user_of s process ≡ uid → result ≡ cond begun None
+        (before_beginning s (holder_in descriptors.now.held) p (first_refusal s process call.now))) }
 {
+    if begun {
+        return None;
+    }
     let reason = first_refusal(fs, descriptors.table(), process, uid, call);
     before_beginning(fs, descriptors, call, process, running, reason)
 }
@@ -263,11 +256,18 @@ impl KernelCall {
     pub fn next(&self, fs: &Fs, descriptors: &Descriptors) -> Option<Act>
         ensures { IsNextAct fs.now descriptors.now self.now result }
     {
-        if !self.has_begun() {
-            let act = first_act(fs, descriptors, &self.call, self.process, self.uid, &self.running);
-            if act.is_some() {
-                return act;
-            }
+        let begun = self.has_begun();
+        let act = first_act(
+            fs,
+            descriptors,
+            &self.call,
+            self.process,
+            self.uid,
+            &self.running,
+            begun,
+        );
+        if act.is_some() {
+            return act;
         }
         act_in_course(
             fs,

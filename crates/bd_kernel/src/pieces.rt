@@ -4,14 +4,15 @@ ghost use Rattle.std.specs.List.{find};
 ghost use Rattle.std.specs.Option.{option_and_then, option_copied, option_map, option_map_or, option_or};
 ghost use Rattle.bd_base.specs.Scripts.{IsCall};
 ghost use Rattle.bd_entry.specs.declared.act.Act.TheVariants as acts;
-ghost use Rattle.bd_entry.specs.Actions.{Running, access_piece, is_for_device, is_untouched, kernel_part, kernel_way, move_piece, piece_numbers, submit_or_poll, write_piece};
+ghost use Rattle.bd_entry.specs.Actions.{access_piece, is_for_device, is_untouched, kernel_part, kernel_way, move_piece, piece_numbers, submit_or_poll, write_piece};
 ghost use Rattle.bd_entry.specs.Calls.{Place, piece_of_call};
-ghost use Rattle.bd_entry.specs.Refusals.{descriptor_of, goes_direct};
+ghost use Rattle.bd_entry.specs.Refusals.{descriptor_of, file_of};
 ghost use Rattle.bd_entry.specs.Store.{Store};
 ghost use Rattle.bd_fs.specs.Files.{Files};
 ghost use Rattle.bd_kernel.specs.Holders.{holder_in};
-ghost use Rattle.bd_kernel.specs.Sights.{AtPlace};
-ghost use Rattle.bd_kernel.specs.Turns.{ArePieceMarksOf, is_among};
+ghost use Rattle.bd_kernel.specs.Changes.{Rows};
+ghost use Rattle.bd_kernel.specs.Sights.{AtPlace, InStore};
+ghost use Rattle.bd_kernel.specs.Turns.{ArePieceMarksOf, is_among, may_submit};
 
 use crate::beginning::busy;
 use crate::calls::{does_write, is_raw, piece_end, piece_of, pieces_of};
@@ -54,6 +55,22 @@ fn is_for_device(call: &Call, descriptor: Option<&Descriptor>, piece: Piece) -> 
         }
 }
 
+/// Whether the piece of this number is to be submitted: it goes to the device, and is untouched.
+fn may_submit(
+    call: &Call,
+    descriptor: Option<&Descriptor>,
+    running: &RunningCall,
+    outstanding: &[u8],
+    number: u8,
+    piece: Piece,
+) -> bool
+    ensures { (s : Store) (p : Place) → p.call ≡ call.now → option_copied descriptor.entry ≡ descriptor_of s p
+        → piece_of_call call.now number ≡ Some piece → ArePieceMarksOf running.now outstanding.now p.before
+        → result ≡ may_submit s (record { place = p; outstanding = outstanding.now }) number }
+{
+    is_for_device(call, descriptor, piece) && is_untouched(running, outstanding, number)
+}
+
 /// The number of the first piece for the device that is untouched.
 fn piece_to_submit(
     table: &DescriptorTable,
@@ -65,13 +82,12 @@ fn piece_to_submit(
     requires { IsCall call.now }
     ensures { (fs : Files) → AtPlace fs table.now call.now process running.now.opened
         (λ s p. ArePieceMarksOf running.now outstanding.now p.before → result
-        ≡ find (λ number. is_for_device s p number
-        && is_untouched (record { place = p; outstanding = outstanding.now }) number) (piece_numbers p.call)) }
+        ≡ find (may_submit s (record { place = p; outstanding = outstanding.now })) (piece_numbers p.call)) }
 {
     let pieces = pieces_of(call);
     let descriptor = descriptor_of(table, call, process, running);
     for (number, piece) in pieces.as_slice().iter().enumerate() {
-        if is_for_device(call, descriptor, *piece) && is_untouched(running, outstanding, number as u8) {
+        if may_submit(call, descriptor, running, outstanding, number as u8, *piece) {
             return Some(number as u8);
         }
     }
@@ -112,7 +128,33 @@ fn kernel_way(how: How, missed: bool) -> Way
     }
 }
 
-/// The kernel writes a piece after the file has grown to its end, or refuses it where the file cannot; or it reads it.
+/// The kernel accesses a piece.
+fn access_piece(running: &RunningCall, number: u8, descriptor: &Descriptor) -> Act
+    ensures { (p : Place) → ArePieceMarksOf running.now [] p.before
+        → result ≡ access_piece p number descriptor.now }
+{
+    let missed = running.has_missed(number);
+    Act::Access(number, kernel_way(descriptor.how, missed))
+}
+
+/// The kernel writes a piece after the file has grown to its end, or refuses it where the file cannot.
+fn write_piece(
+    fs: &Fs,
+    running: &RunningCall,
+    number: u8,
+    piece: Piece,
+    descriptor: &Descriptor,
+) -> Act
+    ensures { (rows : Rows) → InStore fs.now rows (λ s. (p : Place) → ArePieceMarksOf running.now [] p.before
+        → file_of s p ≡ Some descriptor.now.file → result ≡ write_piece s p number piece descriptor.now) }
+{
+    match grow(fs, descriptor.file, piece_end(piece), Some(number)) {
+        Some(act) => act,
+        None => access_piece(running, number, descriptor),
+    }
+}
+
+/// The kernel reads or writes a piece of this descriptor of the call.
 fn move_piece(
     fs: &Fs,
     call: &Call,
@@ -121,17 +163,15 @@ fn move_piece(
     piece: Piece,
     descriptor: &Descriptor,
 ) -> Act
-    requires { piece_of_call call.now number ≡ Some piece }
-    ensures { (s : Store) (p : Place) → s.total ≡ fs.now.total → s.files ≡ fs.now.files → p.call ≡ call.now
+    ensures { (rows : Rows) → InStore fs.now rows (λ s. (p : Place) → p.call ≡ call.now
         → ArePieceMarksOf running.now [] p.before → descriptor_of s p ≡ Some descriptor.now
-        → result ≡ move_piece s p number piece descriptor.now }
+        → result ≡ move_piece s p number piece descriptor.now) }
 {
-    if does_write(call)
-        && let Some(act) = grow(fs, descriptor.file, piece_end(piece), Some(number))
-    {
-        return act;
+    if does_write(call) {
+        write_piece(fs, running, number, piece, descriptor)
+    } else {
+        access_piece(running, number, descriptor)
     }
-    Act::Access(number, kernel_way(descriptor.how, running.has_missed(number)))
 }
 
 /// The kernel does the first piece that is left for it, once no other process holds the file.

@@ -53,6 +53,20 @@ impl Row {
         self.slots.get(fd as usize)?.as_ref()
     }
 
+    /// This number, where it is open.
+    pub fn open_number(&self, fd: u8) -> Option<Fd>
+        ensures { result ≡ option_map (λ d. fd) (in_slot self.now fd) }
+    {
+        match self.get(fd) {
+            Some(_) => {
+                let count = self.slots.len() as u64;
+                prove!(count == DESCRIPTORS);
+                Fd::new(u64::from(fd))
+            }
+            None => None,
+        }
+    }
+
     /// The lowest number that is not open.
     pub fn lowest_free(&self) -> Option<Fd>
         ensures { result ≡ position is_empty_slot self.now }

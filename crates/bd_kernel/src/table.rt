@@ -1,9 +1,9 @@
 //! The descriptors of all processes, and how many pairs of a file and a part have a right.
 ghost use Rattle.std.specs.Prelude.{◌≡◌, ◌<◌, ◌≤◌, ◌||◌, ℕ, true, [], None, IfOk, IsSome, is_some, length, nat_lt, position, replicate, slice_index_or};
 ghost use Rattle.std.specs.List.{list_any};
-ghost use Rattle.std.specs.Option.{option_copied};
+ghost use Rattle.std.specs.Option.{option_copied, option_map};
 ghost use Rattle.bd_base.specs.declared.limits.TheConstants.{DESCRIPTORS, FRAGMENTS, PROCESSES};
-ghost use Rattle.bd_entry.specs.Actions.{keys_by, keys_on};
+ghost use Rattle.bd_entry.specs.Actions.{keys_by, keys_of_slot, keys_on};
 ghost use Rattle.bd_entry.specs.Effects.{attach, clear, detach};
 ghost use Rattle.bd_kernel.specs.Sights.{bare, no_files};
 ghost use Rattle.bd_entry.specs.Store.{first_holder, has_part, is_attached_of, is_empty_slot, is_open_of, is_plain_of, pairs_of_slot, same_pair};
@@ -73,6 +73,13 @@ impl DescriptorTable {
         self.rows.get(process.get() as usize)?.get(fd)
     }
 
+    /// This number, where the process has it open.
+    pub fn open_number(&self, process: Pid, fd: u8) -> Option<Fd>
+        ensures { result ≡ option_map (λ d. fd) (slot_at self.now process fd) }
+    {
+        self.rows.get(process.get() as usize)?.open_number(fd)
+    }
+
     /// The lowest descriptor number that the process has not open.
     pub fn lowest_free(&self, process: Pid) -> Option<Fd>
         ensures { result ≡ position is_empty_slot (slice_index_or self.now process []) }
@@ -140,13 +147,10 @@ impl DescriptorTable {
     pub fn keys_by(&self, process: Pid, fd: u8) -> KeyList
         ensures { result ≡ keys_by (bare no_files self.now) process fd }
     {
-        let mut keys = KeyList::new();
-        if let Some(descriptor) = self.get(process, fd)
-            && let Some(fd) = Fd::new(u64::from(fd))
-        {
-            descriptor.attached.push_keys(&mut keys, process, fd);
+        match self.open_number(process, fd) {
+            Some(number) => keys_of(self.get(process, fd), process, number),
+            None => KeyList::new(),
         }
-        keys
     }
 
     /// A descriptor without rights is opened under a number that is not open, or one without rights is closed.
@@ -234,6 +238,17 @@ fn change_row(rows: &mut [Row], process: Pid, fd: u8, change: Change)
     if index < rows.len() {
         rows[index].change(fd, change);
     }
+}
+
+/// The keys of the rights of a descriptor, if there is one.
+fn keys_of(descriptor: Option<&Descriptor>, process: Pid, fd: Fd) -> KeyList
+    ensures { result ≡ keys_of_slot (λ d. true) process fd (option_copied descriptor.entry) }
+{
+    let mut keys = KeyList::new();
+    if let Some(descriptor) = descriptor {
+        descriptor.attached.push_keys(&mut keys, process, fd);
+    }
+    keys
 }
 
 /// The keys of all rights on the file.

@@ -12,7 +12,7 @@ ghost use Rattle.bd_store.specs.Kept.{AtPlace, bare};
 
 use crate::store::PlainStore;
 use bd_base::{At, BLOCK_SIZE, BlockNo, Call, FileId, PART_BLOCKS};
-use bd_kernel::Descriptor;
+use bd_kernel::{Descriptor, fd_of_call};
 
 impl PlainStore {
     /// The number of the descriptor of the call.
@@ -20,7 +20,7 @@ impl PlainStore {
         requires { at.now.process < length self.now.uids }
         ensures { AtPlace self.now call.now at.now (λ s p. result ≡ fd_of p) }
     {
-        bd_kernel::fd_of(call, self.running(at.process))
+        fd_of_call(call, self.running(at.process).opened())
     }
 
     /// The descriptor of the call, where it is open.

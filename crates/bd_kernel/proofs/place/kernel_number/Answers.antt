@@ -1,18 +1,11 @@
-use Rattle.std.proofs.Common.{◌≡◌, ℕ, ◌<◌, false, List, Some, length, refl, sym, ap, ◌∙◌, subst, arith, inl, inr}
-use Rattle.std.specs.Prelude.{slice_get, slice_index_or}
+use Rattle.std.proofs.Common.{◌≡◌, ℕ, ◌<◌, false, List, Some, length, ap, ◌∙◌, arith, inl, inr}
 use Rattle.std.proofs.lemmas.Bool.{cases_eq}
-use Rattle.std.proofs.lemmas.Option.{slice_get_read}
 use Rattle.bd_base.specs.Pieces.{Piece}
 use Rattle.bd_entry.specs.Calls.{piece_of_call, pieces_of_call}
 use Rattle.bd_entry.specs.Refusals.{is_next_for_kernel}
 use Rattle.bd_kernel.specs.Sights.{place_of, store_of}
-use Rattle.bd_kernel.proofs.KernelPieces.{kernel_number-first, kernel_number-none, next_for_kernel-at}
+use Rattle.bd_kernel.proofs.KernelPieces.{item-of, next_for_kernel-at, number-first, number-none}
 use Rattle.bd_kernel.proofs.place.kernel_number.Goals as goal
-
--- an element of one list is that of the same list under another name
-item-of : (xs ys : List Piece) (i : ℕ) (x : Piece) → xs ≡ ys → i < length xs → x ≡ slice_index_or xs i x → slice_get ys i ≡ Some x
-item-of xs ys i x same within is =
-    subst (λ (zs : List Piece). slice_get zs i ≡ Some x) same (slice_get_read xs (length xs) i x refl within is)
 
 pub returns-then-is_next_for_kernel : goal.returns-then-is_next_for_kernel
 returns-then-is_next_for_kernel c = λ fs uids bytes work call_number before opens marks.
@@ -25,8 +18,8 @@ returns-then-is_next_for_kernel c = λ fs uids bytes work call_number before ope
     item-of xs.result.now (pieces_of_call c.args.call.now) number piece (xs.ensures ∙ c.pieces_of-pieces.ensures) c.loop-number-test.true c.piece-item.is in
     let here =
     next_for_kernel-at s p number piece at c.is_next_for_kernel.result
-    (c.is_next_for_kernel.ensures s p marks (c.descriptor_of-descriptor.ensures before (c.opened.ensures ∙ opens))) in
-    kernel_number-first s p number piece at (here ∙ c.if-is_next_for_kernel.true)
+    (c.is_next_for_kernel.ensures s p marks (c.descriptor_of-descriptor.ensures before opens)) in
+    number-first (is_next_for_kernel s p) c.args.call.now number piece at (here ∙ c.if-is_next_for_kernel.true)
     (λ k below. c.loop-number.invariant k below fs uids bytes work call_number before opens marks)
 
 pub loop-number-preserved : goal.loop-number-preserved
@@ -40,7 +33,7 @@ loop-number-preserved c = λ k below fs uids bytes work call_number before opens
     item-of xs.result.now (pieces_of_call c.args.call.now) number piece (xs.ensures ∙ c.pieces_of-pieces.ensures) c.loop-number-test.true c.piece-item.is in
     let here =
     next_for_kernel-at s p number piece at c.is_next_for_kernel.result
-    (c.is_next_for_kernel.ensures s p marks (c.descriptor_of-descriptor.ensures before (c.opened.ensures ∙ opens))) in
+    (c.is_next_for_kernel.ensures s p marks (c.descriptor_of-descriptor.ensures before opens)) in
     elim (cases_eq k number) [
       | inl same ↦ ap (is_next_for_kernel s p) same ∙ here ∙ c.if-is_next_for_kernel.false
       | inr other ↦ c.loop-number.invariant k (omega arith) fs uids bytes work call_number before opens marks
@@ -53,5 +46,5 @@ returns c = λ fs uids bytes work call_number before opens marks.
     let xs = c.as_slice-piece-items in
     let all : length xs.result.now ≡ length (pieces_of_call c.args.call.now) =
     ap (λ (ys : List Piece). length ys) (xs.ensures ∙ c.pieces_of-pieces.ensures) in
-    kernel_number-none s p
+    number-none (is_next_for_kernel s p) c.args.call.now
     (λ k below. c.loop-number.invariant k (omega (arith, all, c.loop-number-test.false, below)) fs uids bytes work call_number before opens marks)

@@ -9,4 +9,4 @@ pub returns : goal.returns
 returns c =
     at_place c.args.self.now (files_of c.args.self.now) c.descriptors.result.now refl c.descriptors.ensures c.args.call.now c.args.at.now
     c.running-running.result.now (λ s p. option_copied c.descriptor_of.result ≡ descriptor_of s p) c.running-running.ensures
-    (λ uids bytes work number before marks. c.descriptor_of.ensures before marks)
+    (λ uids bytes work number before opens. c.descriptor_of.ensures before opens)
