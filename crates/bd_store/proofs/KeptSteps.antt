@@ -15,9 +15,9 @@ use Rattle.bd_entry.specs.Rules.{place_in}
 use Rattle.bd_entry.specs.Store.{Descriptor, Store, Valid, descriptor_at, with_work, work_of}
 use Rattle.bd_entry.proofs.StoreLaws.{step_keeps_valid}
 use Rattle.bd_store.specs.Kept.{AreMarked, AtPlace, Kept, Represents, bare, marks_at, no_marks, store_of}
-use Rattle.bd_store.specs.Marks.{AreMarksOf, HasKeyOf, HasRoom, Marks, noted}
+use Rattle.bd_kernel.specs.Marks.{AreMarksOf, HasKeyOf, HasRoom, Marks, noted}
 use Rattle.bd_store.specs.Steps.{IsReady, kept_as, with_noted}
-use Rattle.bd_store.proofs.MarkLemmas.{noted-marks}
+use Rattle.bd_kernel.proofs.MarkLemmas.{noted-marks}
 use Rattle.bd_store.proofs.ReadyChanges.{has_piece}
 
 -- ---- an entry's changes do not look at the entries of running calls

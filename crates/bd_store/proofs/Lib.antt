@@ -1,19 +1,11 @@
 -- Lemmas of the plain store.
-pub mod PartSets
-pub mod MarkLemmas
 pub mod Decisions
-pub mod PairCounts
 pub mod JournalWork
 pub mod FirstEntries
-pub mod MarkRanges
-pub mod KernelPieces
 pub mod NextEntries
 pub mod DecidedRights
 pub mod KeptRules
-pub mod CountedRows
 pub mod OpenDescriptors
-pub mod AllPairs
-pub mod CountedRights
 pub mod OneVerdict
 pub mod StartStores
 pub mod ReadyChanges
@@ -21,4 +13,5 @@ pub mod CallEnds
 pub mod KeptSteps
 pub mod Starts
 pub mod Applies
+pub mod Sights
 pub mod TakenEntries

@@ -21,9 +21,9 @@ use Rattle.bd_entry.specs.Store.{Store, work_of}
 use Rattle.bd_entry.proofs.CallOrder.{IsOrdered, is_finished-other, numbered, other_process, stays_finished}
 use Rattle.bd_entry.proofs.HistoryLaws.{IsLed, is_call, process_there}
 use Rattle.bd_store.specs.Kept.{BreaksAt, Kept, Represents, marks_at}
-use Rattle.bd_store.specs.Marks.{AreMarksOf, Marks}
+use Rattle.bd_kernel.specs.Marks.{AreMarksOf, Marks}
 use Rattle.bd_store.specs.Verdicts.{AreFinished}
-use Rattle.bd_store.proofs.MarkRanges.{one_fails}
+use Rattle.bd_kernel.proofs.MarkRanges.{one_fails}
 
 -- ---- calls without entries
 

@@ -38,9 +38,9 @@ use Rattle.bd_entry.proofs.Descriptors.{attaching, sound_all}
 use Rattle.bd_entry.proofs.RangesOfPieces.{piece_of_call-is}
 use Rattle.bd_entry.proofs.Slots.{some_of}
 use Rattle.bd_entry.proofs.SoundVolumes.{first_of_create, grows_to, is_of_call}
-use Rattle.bd_store.specs.Changes.{has_right}
+use Rattle.bd_kernel.specs.Changes.{has_right}
 use Rattle.bd_store.specs.Kept.{Kept, Represents, bare, store_of}
-use Rattle.bd_store.specs.Marks.{HasPieceOf}
+use Rattle.bd_kernel.specs.Marks.{HasPieceOf}
 use Rattle.bd_store.specs.Steps.{CanChange, CanGrow, IsReady, kept_as}
 
 -- ---- the piece that is noted

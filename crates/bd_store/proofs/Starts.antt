@@ -14,7 +14,7 @@ use Rattle.bd_entry.specs.declared.entry.Entry.{Entry}
 use Rattle.bd_entry.specs.Store.{Descriptor}
 use Rattle.bd_entry.proofs.StoreLaws.{start_is_valid}
 use Rattle.bd_store.specs.Kept.{AreIdle, AreMarked, IsKept, Kept, Represents, idle_script, no_marks, start_of, store_of}
-use Rattle.bd_store.specs.Marks.{AreMarksOf, Marks}
+use Rattle.bd_kernel.specs.Marks.{AreMarksOf, Marks}
 
 -- a process that calls nothing
 abbrev idle : ℕ → Process

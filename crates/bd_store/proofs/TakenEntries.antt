@@ -23,7 +23,7 @@ use Rattle.bd_entry.proofs.CallWork.{effect_of-work}
 use Rattle.bd_entry.proofs.HistoryLaws.{IsLed, history_leads, is_call, led-push, next_entry, process_there}
 use Rattle.bd_entry.proofs.RangesOfEntries.{few_calls}
 use Rattle.bd_store.specs.Kept.{BreaksAt, Kept, Represents, marks_at}
-use Rattle.bd_store.specs.Marks.{AreMarksOf, Marks}
+use Rattle.bd_kernel.specs.Marks.{AreMarksOf, Marks}
 use Rattle.bd_store.specs.Verdicts.{AreFinished, IsTaken}
 use Rattle.bd_store.proofs.NextEntries.{breaks_call, breaks_next, breaks_once, breaks_store, finished-ended, finished-next, finished-other, finished-running, fits_script, next-marks, user_there}
 

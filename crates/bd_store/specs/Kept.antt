@@ -12,7 +12,8 @@ use Rattle.bd_entry.specs.declared.entry.Entry.{Entry}
 use Rattle.bd_entry.specs.Calls.{Place, at_of}
 use Rattle.bd_entry.specs.Rules.{EntryRule, FitsStore, entry_rule_number, place_in}
 use Rattle.bd_entry.specs.Store.{Descriptor, Store, Valid, start_store, work_of}
-use Rattle.bd_store.specs.Marks.{AreMarksOf, Marks}
+use Rattle.bd_fs.specs.Files.{Files}
+use Rattle.bd_kernel.specs.Marks.{AreMarksOf, Marks}
 
 -- a store with marks of the entries of each running call in their place
 pub record Kept : Type 0 where
@@ -41,6 +42,10 @@ marks_at k process = slice_index_or k.marks process no_marks
 pub record AreIdle (processes : ℕ) (marks : List Marks) : Type 0 where
   pub count : length marks ≡ processes
   pub idle : All (λ m. AreMarksOf m []) marks
+
+-- the files, and how many blocks there are
+abbrev pub files_of : Kept → Files
+files_of k = record { total = k.total; files = k.files }
 
 -- the store with these as the entries of running calls
 abbrev pub store_of : Kept → List (List Entry) → Store

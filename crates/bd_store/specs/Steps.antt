@@ -13,9 +13,9 @@ use Rattle.bd_entry.specs.Laws.{IsNextEntry}
 use Rattle.bd_entry.specs.Rules.{EntryRule, FitsStore, place_in}
 use Rattle.bd_entry.specs.RulesOfRights.{TheDescriptor}
 use Rattle.bd_entry.specs.Store.{Descriptor, Store, pairs_of_slot, size_at, with_file}
-use Rattle.bd_store.specs.Changes.{has_right, slot_at}
+use Rattle.bd_kernel.specs.Changes.{has_right, slot_at}
 use Rattle.bd_store.specs.Kept.{Kept, bare, marks_at}
-use Rattle.bd_store.specs.Marks.{noted}
+use Rattle.bd_kernel.specs.Marks.{noted}
 
 -- the entry is the next one of its call, and keeps the rules of the store
 pub record IsReady (s : Store) (call : Call) (e : Entry) : Type 0 where

@@ -7,7 +7,7 @@ ghost use Rattle.bd_entry.specs.Effects.{after_access, after_telling, with_bytes
 ghost use Rattle.bd_entry.specs.Store.{size_at, with_descriptor};
 ghost use Rattle.bd_store.specs.Kept.{marks_at};
 ghost use Rattle.bd_store.specs.Kinds.{ends_by_pieces};
-ghost use Rattle.bd_store.specs.Marks.{AreMarksOf, HasKeyOf, HasPieceOf, HasRoom};
+ghost use Rattle.bd_kernel.specs.Marks.{AreMarksOf, HasKeyOf, HasPieceOf, HasRoom};
 ghost use Rattle.bd_store.specs.Steps.{CanChange, CreatesFile, kept_after, kept_as, with_noted};
 ghost use Rattle.std.specs.Prelude.{◌≡◌, ◌<◌, ◌≤◌, ◌+◌, ◌*◌, ◌%◌, ◌/◌, None, Some, IsSome, OnOk, OnErr, length, replicate};
 ghost use Rattle.bd_base.specs.Scripts.{IsCall};
@@ -22,12 +22,12 @@ ghost use Rattle.bd_entry.specs.Store.{Store, slots_of, work_of};
 ghost use Rattle.bd_store.specs.Kept.{AtPlace, Represents, bare};
 ghost use Rattle.bd_store.specs.Steps.{IsReady};
 
-use crate::calls::{is_end_of, pieces_of};
-use crate::descriptor::Descriptor;
+use crate::calls::is_end_of;
 use crate::store::PlainStore;
 use bd_base::{At, BLOCK_SIZE, BlockNo, Call, Fd, FileId, Name, OutOfMemory, Pid, Range, Way};
 use bd_entry::{Entry, at_of};
 use bd_fs::{CreateError, GrowError};
+use bd_kernel::{Descriptor, pieces_of};
 
 impl PlainStore {
     /// Applies an entry that keeps the rules. After an error the store is as before.

@@ -5,12 +5,12 @@ ghost use Rattle.std.specs.Option.{option_copied};
 ghost use Rattle.bd_entry.specs.declared.entry.Entry.{Entry};
 ghost use Rattle.bd_entry.specs.Calls.{at_of, call_at, fd_of_call};
 ghost use Rattle.bd_entry.specs.RulesOfCalls.{CreatesAs, HasFieldsOf, IsFirstOfKind, IsOfCall, MayClear, OpensAs};
-ghost use Rattle.bd_store.specs.Marks.{AreMarksOf};
+ghost use Rattle.bd_kernel.specs.Marks.{AreMarksOf};
 
-use crate::calls::{does_write, fd_of_call, is_made_by, piece_of};
-use crate::running_call::RunningCall;
+use crate::calls::is_made_by;
 use bd_base::{At, Call, Fd, How, Mode, Name, Pid, Script};
 use bd_entry::{Entry, at_of};
+use bd_kernel::{RunningCall, does_write, fd_of_call, piece_of};
 use bd_pieces::Piece;
 
 /// The call of this number of this process.

@@ -10,13 +10,12 @@ ghost use Rattle.bd_entry.specs.Effects.{effect_of};
 ghost use Rattle.bd_entry.specs.Laws.{IsNextEntry};
 ghost use Rattle.bd_entry.specs.Rules.{EntryRule, FitsStore, place_in};
 ghost use Rattle.bd_entry.specs.Store.{Store, in_slot};
-ghost use Rattle.bd_store.specs.Kept.{AreIdle, Represents, BreaksAt, marks_at, start_of};
+ghost use Rattle.bd_store.specs.Kept.{AreIdle, Represents, BreaksAt, files_of, marks_at, start_of};
 
-use crate::descriptors::Descriptors;
-use crate::running_call::RunningCall;
 use bd_base::{Call, FileId, Inode, List, Name, OutOfMemory, Pid, Volume};
 use bd_entry::Entry;
 use bd_fs::Fs;
+use bd_kernel::{DescriptorTable, RunningCall};
 use std::alloc::Global;
 use std::marker::Model;
 
@@ -51,7 +50,7 @@ pub struct PlainStore {
     pub(crate) fs: Fs,
     pub(crate) bytes: Vec<u8>,
     pub(crate) uids: UidList,
-    pub(crate) descriptors: Descriptors,
+    pub(crate) descriptors: DescriptorTable,
     pub(crate) calls: Vec<RunningCall>,
 }
 
@@ -95,7 +94,7 @@ impl PlainStore {
             bytes,
         } = volume;
         let fs = Fs::new(alloc, total, inodes)?;
-        let descriptors = Descriptors::new(alloc, uids.len())?;
+        let descriptors = DescriptorTable::new(alloc, uids.len())?;
         let calls = idle_calls(alloc, uids.len())?;
         Ok(PlainStore {
             alloc,
@@ -164,8 +163,15 @@ impl PlainStore {
         self.uids.as_slice()[process.get() as usize]
     }
 
+    /// The files.
+    pub(crate) fn fs(&self) -> &Fs
+        ensures { result.now ≡ files_of self.now }
+    {
+        &self.fs
+    }
+
     /// The descriptors of all processes.
-    pub(crate) fn descriptors(&self) -> &Descriptors
+    pub(crate) fn descriptors(&self) -> &DescriptorTable
         ensures { result.now ≡ self.now.opens }
     {
         &self.descriptors

@@ -7,10 +7,10 @@ ghost use Rattle.bd_entry.specs.Store.{blocks_in, limit_in};
 ghost use Rattle.bd_store.specs.Kept.{Judges, bare};
 ghost use Rattle.bd_store.specs.Kinds.{IsPieceWhereWrote, IsBlockOf};
 
-use crate::calls::bytes_for_piece;
 use crate::store::PlainStore;
 use bd_base::{BLOCK_SIZE, Call, FileId, Range};
 use bd_entry::Entry;
+use bd_kernel::bytes_for_piece;
 use bd_pieces::Piece;
 
 impl PlainStore {

@@ -10,10 +10,10 @@ ghost use Rattle.bd_entry.specs.RulesOfRights.{TheDescriptor};
 ghost use Rattle.bd_entry.specs.Store.{blocks_in, descriptor_at, file_in, size_in};
 ghost use Rattle.bd_store.specs.Kept.{AtPlace, Judges, bare};
 
-use crate::place::next_size;
 use crate::store::PlainStore;
 use bd_base::{At, BLOCK_SIZE, Call, Fd, FileId, Pid, Way};
 use bd_entry::Entry;
+use bd_kernel::next_size;
 
 impl PlainStore {
     /// Whether the entry keeps the rule of limits.

@@ -4,10 +4,10 @@ ghost use Rattle.bd_entry.specs.Calls.{at_of, named_fd};
 ghost use Rattle.bd_entry.specs.RulesOfRights.{HasRightDescriptor, IsOpenAt, NamedIsOpen};
 ghost use Rattle.bd_store.specs.Kept.{Judges, bare};
 
-use crate::calls::named_fd;
 use crate::store::PlainStore;
 use bd_base::{At, Call, Fd, Pid};
 use bd_entry::Entry;
+use bd_kernel::named_fd;
 
 impl PlainStore {
     /// Whether the entry keeps the rule of descriptors.

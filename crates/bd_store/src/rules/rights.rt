@@ -8,12 +8,11 @@ ghost use Rattle.bd_entry.specs.RulesOfRights.{HasNoRights, HasRights, LowersWhe
 ghost use Rattle.bd_entry.specs.Store.{descriptor_at, has_fragment, has_part, lowest_unattached, next_part, size_in};
 ghost use Rattle.bd_store.specs.Kept.{AtPlace, Judges, bare};
 
-use crate::calls::{does_write, piece_of};
-use crate::descriptor::Descriptor;
 use crate::place::part_of;
 use crate::store::PlainStore;
 use bd_base::{At, BLOCK_SIZE, Call, Fd, FileId, Found, How, Mode, Part, Pid, Way};
 use bd_entry::Entry;
+use bd_kernel::{Descriptor, does_write, lowest_unattached, next_part, piece_of};
 use bd_pieces::Piece;
 
 impl PlainStore {
@@ -73,8 +72,7 @@ impl PlainStore {
     fn lowest_unattached(&self, descriptor: &Descriptor) -> Option<Part>
         ensures { result ≡ lowest_unattached (bare self.now) descriptor.now }
     {
-        let end = self.part_count(descriptor.file);
-        descriptor.attached.lowest_missing(end)
+        lowest_unattached(self.fs(), descriptor)
     }
 
     /// Whether a descriptor gets its next right on this part.
@@ -96,13 +94,7 @@ impl PlainStore {
     fn is_complete(&self, descriptor: &Descriptor) -> bool
         ensures { (result ≡ true) ↔ (next_part (bare self.now) descriptor.now ≡ None) }
     {
-        match self.lowest_unattached(descriptor) {
-            Some(part) => {
-                self.descriptors().first_plain(descriptor.file).is_some()
-                    || !self.descriptors().has_fragment(descriptor.file, part)
-            }
-            None => true,
-        }
+        next_part(self.fs(), self.descriptors(), descriptor).is_none()
     }
 
     /// Whether a descriptor has so many rights, and can be given no further one.

@@ -6,11 +6,10 @@ ghost use Rattle.bd_entry.specs.Refusals.{descriptor_of};
 ghost use Rattle.bd_entry.specs.RulesOfRights.{HasRightWay, IsWay, IsWayOf, ThePiece, WentDirect, WentToKernel};
 ghost use Rattle.bd_store.specs.Kept.{AtPlace, Judges};
 
-use crate::calls::{is_raw, piece_of};
-use crate::place::is_direct;
 use crate::store::PlainStore;
 use bd_base::{At, Call, How, Way};
 use bd_entry::Entry;
+use bd_kernel::{is_direct, is_raw, piece_of};
 
 /// Whether the way is that of a piece of a direct descriptor, which goes to the device or not.
 fn is_way_of(direct: bool, missed: bool, way: Way) -> bool

@@ -4,7 +4,7 @@ use Rattle.bd_entry.specs.Calls.{at_of, fd_of, is_ended_by}
 use Rattle.bd_entry.specs.Effects.{with_descriptor_of_call, with_known_size}
 use Rattle.bd_entry.specs.Store.{work_of}
 use Rattle.bd_store.specs.Kept.{AtPlace, Kept, bare, marks_at}
-use Rattle.bd_store.specs.Marks.{AreMarksOf}
+use Rattle.bd_kernel.specs.Marks.{AreMarksOf}
 use Rattle.bd_store.specs.Steps.{kept_as}
 use Rattle.bd_store.proofs.KeptSteps.{IsTold, ends, goes_on, marked_here, still_there}
 use Rattle.bd_store.proofs.ReadyChanges.{can_change, has_piece}

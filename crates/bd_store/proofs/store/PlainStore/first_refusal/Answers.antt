@@ -1,11 +1,9 @@
-use Rattle.std.proofs.Common.{ap, ◌∙◌}
-use Rattle.bd_base.specs.Inodes.{create_refusal}
-use Rattle.bd_store.specs.Kept.{Kept}
+use Rattle.std.proofs.Common.{◌≡◌}
+use Rattle.bd_entry.specs.Refusals.{first_refusal}
+use Rattle.bd_store.proofs.Sights.{for_user}
 use Rattle.bd_store.proofs.store.PlainStore.first_refusal.Goals as goal
 
-pub returns-in-Enter : goal.returns-in-Enter
-returns-in-Enter c = rw c.in-Enter.is c.open_refusal.ensures
-
-pub returns-in-Create : goal.returns-in-Create
-returns-in-Create c =
-    rw c.in-Create.is (c.can_create.ensures ∙ ap (λ (k : Kept). create_refusal c.in-Create.name k.files) c.self.view_is)
+pub returns : goal.returns
+returns c =
+    for_user c.args.self.now c.fs.result.now c.descriptors.result.now c.fs.ensures c.descriptors.ensures c.args.process c.uid-uid.result
+    (λ s. c.first_refusal.result ≡ first_refusal s c.args.process c.args.call.now) c.uid-uid.ensures c.first_refusal.ensures

@@ -3,7 +3,7 @@ use Rattle.std.specs.List.{list_all, range_with_len}
 use Rattle.bd_base.specs.Pieces.{Piece}
 use Rattle.bd_entry.specs.Calls.{at_of}
 use Rattle.bd_store.specs.Kept.{marks_at}
-use Rattle.bd_store.specs.Marks.{Marks, is_marked}
+use Rattle.bd_kernel.specs.Marks.{Marks, is_marked}
 use Rattle.bd_store.proofs.CallEnds.{ended_by_answers, ended_by_last, not_ended}
 use Rattle.bd_store.proofs.store.PlainStore.is_ended.Goals as goal
 

@@ -1,0 +1,50 @@
+use Rattle.std.proofs.Common.{◌≡◌, ℕ, ◌<◌, false, List, Some, length, ap, ◌∙◌, arith, inl, inr}
+use Rattle.std.proofs.lemmas.Bool.{cases_eq}
+use Rattle.bd_base.specs.Pieces.{Piece}
+use Rattle.bd_entry.specs.Calls.{piece_of_call, pieces_of_call}
+use Rattle.bd_entry.specs.Refusals.{is_next_for_kernel}
+use Rattle.bd_kernel.specs.Sights.{place_of, store_of}
+use Rattle.bd_kernel.proofs.KernelPieces.{item-of, next_for_kernel-at, number-first, number-none}
+use Rattle.bd_kernel.proofs.place.kernel_number.Goals as goal
+
+pub returns-then-is_next_for_kernel : goal.returns-then-is_next_for_kernel
+returns-then-is_next_for_kernel c = λ fs uids bytes work call_number before opens marks.
+    let s = store_of fs c.args.table.now uids bytes work in
+    let p = place_of c.args.call.now c.args.process call_number before in
+    let number = c.loop-number.number in
+    let piece = c.piece-item.result in
+    let xs = c.as_slice-piece-items in
+    let at : piece_of_call c.args.call.now number ≡ Some piece =
+    item-of xs.result.now (pieces_of_call c.args.call.now) number piece (xs.ensures ∙ c.pieces_of-pieces.ensures) c.loop-number-test.true c.piece-item.is in
+    let here =
+    next_for_kernel-at s p number piece at c.is_next_for_kernel.result
+    (c.is_next_for_kernel.ensures s p marks (c.descriptor_of-descriptor.ensures before opens)) in
+    number-first (is_next_for_kernel s p) c.args.call.now number piece at (here ∙ c.if-is_next_for_kernel.true)
+    (λ k below. c.loop-number.invariant k below fs uids bytes work call_number before opens marks)
+
+pub loop-number-preserved : goal.loop-number-preserved
+loop-number-preserved c = λ k below fs uids bytes work call_number before opens marks.
+    let s = store_of fs c.args.table.now uids bytes work in
+    let p = place_of c.args.call.now c.args.process call_number before in
+    let number = c.loop-number.number in
+    let piece = c.piece-item.result in
+    let xs = c.as_slice-piece-items in
+    let at : piece_of_call c.args.call.now number ≡ Some piece =
+    item-of xs.result.now (pieces_of_call c.args.call.now) number piece (xs.ensures ∙ c.pieces_of-pieces.ensures) c.loop-number-test.true c.piece-item.is in
+    let here =
+    next_for_kernel-at s p number piece at c.is_next_for_kernel.result
+    (c.is_next_for_kernel.ensures s p marks (c.descriptor_of-descriptor.ensures before opens)) in
+    elim (cases_eq k number) [
+      | inl same ↦ ap (is_next_for_kernel s p) same ∙ here ∙ c.if-is_next_for_kernel.false
+      | inr other ↦ c.loop-number.invariant k (omega arith) fs uids bytes work call_number before opens marks
+    ]
+
+pub returns : goal.returns
+returns c = λ fs uids bytes work call_number before opens marks.
+    let s = store_of fs c.args.table.now uids bytes work in
+    let p = place_of c.args.call.now c.args.process call_number before in
+    let xs = c.as_slice-piece-items in
+    let all : length xs.result.now ≡ length (pieces_of_call c.args.call.now) =
+    ap (λ (ys : List Piece). length ys) (xs.ensures ∙ c.pieces_of-pieces.ensures) in
+    number-none (is_next_for_kernel s p) c.args.call.now
+    (λ k below. c.loop-number.invariant k (omega (arith, all, c.loop-number-test.false, below)) fs uids bytes work call_number before opens marks)

@@ -1,0 +1,7 @@
+-- The words of the contracts of kernel calls.
+pub mod PartMarks
+pub mod Changes
+pub mod Marks
+pub mod Sights
+pub mod Holders
+pub mod Turns

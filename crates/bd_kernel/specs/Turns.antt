@@ -1,0 +1,60 @@
+-- What a running call keeps of its entries and of its commands.
+use Rattle.std.specs.Prelude.{◌≡◌, ℕ, ◌<◌, ◌≤◌, Bool, true, false, ◌&&◌, nat_eq, nat_lt, Option, None, Some, List, [], length}
+use Rattle.std.specs.List.{list_any}
+use Rattle.bd_base.specs.declared.limits.TheConstants.{PIECES}
+use Rattle.bd_base.specs.declared.script.Call.{Call}
+use Rattle.bd_base.specs.Scripts.{IsCall}
+use Rattle.bd_entry.specs.declared.act.Act.{Act}
+use Rattle.bd_entry.specs.declared.entry.Entry.{Entry}
+use Rattle.bd_entry.specs.Actions.{Running, is_for_device, is_untouched, next_act}
+use Rattle.bd_entry.specs.Calls.{has_missed, is_answered, opened_fd}
+use Rattle.bd_entry.specs.Store.{Store, user_of}
+use Rattle.bd_fs.specs.Files.{Files}
+use Rattle.bd_kernel.specs.Changes.{Rows}
+use Rattle.bd_kernel.specs.Holders.{Table, holder_in}
+use Rattle.bd_kernel.specs.Marks.{Marks, is_marked}
+use Rattle.bd_kernel.specs.Sights.{InStore, place_of}
+
+-- whether the number is among these
+abbrev pub is_among : ℕ → List ℕ → Bool
+is_among number numbers = list_any (nat_eq number) numbers
+
+-- the marks of pieces are those of these entries, but for the pieces whose commands are outstanding
+pub record ArePieceMarksOf (m : Marks) (outstanding : List ℕ) (entries : List Entry) : Type 0 where
+  pub answered : (piece : ℕ) → is_among piece outstanding ≡ false → is_marked m.answered piece ≡ is_answered piece entries
+  pub missed : (piece : ℕ) → is_among piece outstanding ≡ false → is_marked m.missed piece ≡ has_missed piece entries
+
+-- whether the piece of this number is to be submitted: it goes to the device, and is untouched
+abbrev pub may_submit : Store → Running → ℕ → Bool
+may_submit s r number = is_for_device s r.place number && is_untouched r number
+
+-- a call of a process with this user, marks of its entries so far, the pieces whose commands are outstanding, and
+-- whether its last action was carried out
+pub record Progress : Type 0 where
+  pub call : Call
+  pub process : ℕ
+  pub uid : ℕ
+  pub marks : Marks
+  pub outstanding : List ℕ
+  pub ended : Bool
+
+-- these may be the entries of the call so far: where it began by an entry or has a command, it has begun; and the marks
+-- are those of the entries, but for the pieces whose commands are outstanding
+pub record AreEntriesOf (c : Progress) (entries : List Entry) : Type 0 where
+  pub begun : c.outstanding ≡ [] → c.marks.begun ≡ nat_lt 0 (length entries)
+  pub opened : c.marks.opened ≡ opened_fd entries
+  pub pieces : ArePieceMarksOf c.marks c.outstanding entries
+
+-- the answer is the next action of the call in each store of these files and descriptors where its process has its
+-- user, whatever its entries so far may be
+abbrev pub IsNextAct : Files → Table → Progress → Option Act → Type 0
+IsNextAct fs table c answer =
+    InStore fs table.rows
+    (λ s. user_of s c.process ≡ c.uid → (number : ℕ) (before : List Entry) → AreEntriesOf c before →
+    answer ≡ next_act s (holder_in table.held)
+    (record { place = place_of c.call c.process number before; outstanding = c.outstanding }))
+
+-- the call is within its limits, and its commands are of its pieces
+pub record IsProgress (c : Progress) : Type 0 where
+  pub call : IsCall c.call
+  pub few : length c.outstanding ≤ PIECES

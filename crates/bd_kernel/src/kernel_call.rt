@@ -1,0 +1,288 @@
+//! A running call of a process, and the action that it needs next.
+ghost use Rattle.std.specs.Prelude.{◌≡◌, ℕ, ◌<◌, ◌++◌, ◌∷◌, [], None, cond, true, false, IfOk, List, Some, drop, length, slice_set};
+ghost use Rattle.std.specs.Option.{option_or};
+ghost use Rattle.bd_entry.specs.declared.entry.Entry.{Entry};
+ghost use Rattle.bd_base.specs.Scripts.{IsCall};
+ghost use Rattle.bd_base.specs.declared.limits.TheConstants.{PIECES};
+ghost use Rattle.bd_entry.specs.Actions.{before_beginning, has_begun, keys_to_revoke, kernel_part, own_act, revoke, submit_or_poll};
+ghost use Rattle.bd_entry.specs.Refusals.{first_refusal};
+ghost use Rattle.bd_entry.specs.Store.{user_of};
+ghost use Rattle.bd_kernel.specs.Holders.{holder_in};
+ghost use Rattle.bd_kernel.specs.Marks.{AreMarksOf};
+ghost use Rattle.bd_kernel.specs.Sights.{AtPlace, place_of};
+ghost use Rattle.bd_kernel.specs.Turns.{ArePieceMarksOf, AreEntriesOf, IsNextAct};
+
+use crate::beginning::before_beginning;
+use crate::descriptors::Descriptors;
+use crate::files::{attach_by, open_directly, open_file, tell_size, truncate, unlink};
+use crate::pieces::{kernel_part, submit_or_poll};
+use crate::refusals::first_refusal;
+use crate::revocation::{keys_to_revoke, revoke};
+use crate::running_call::RunningCall;
+use arrayvec::ArrayVec;
+use bd_base::{Call, How, OutOfMemory, PIECES, Pid};
+use bd_entry::Act;
+use bd_fs::Fs;
+use std::alloc::Global;
+use std::marker::Model;
+
+/// How many pieces a call may have.
+const PIECE_COUNT: usize = PIECES as usize;
+
+/// A call of a process that was begun, and how far it is.
+#[derive(Drop)]
+pub struct KernelCall {
+    call: Call,
+    process: Pid,
+    uid: u32,
+    running: RunningCall,
+    // The pieces whose commands are submitted and not polled, in the order of their submission.
+    outstanding: ArrayVec<u8, PIECE_COUNT>,
+    // Whether its last action was carried out.
+    ended: bool,
+}
+
+impl Model for KernelCall {
+    ghost use Rattle.bd_kernel.specs.Turns.{IsProgress, Progress};
+
+    ghost Value = { Progress };
+
+    ghost view = { λ a. record {
+      call = a.call;
+      process = a.process;
+      uid = a.uid;
+      marks = a.running;
+      outstanding = a.outstanding.items;
+      ended = a.ended;
+    } };
+
+    ghost invariant = { λ a. IsProgress (record {
+      call = a.call;
+      process = a.process;
+      uid = a.uid;
+      marks = a.running;
+      outstanding = a.outstanding.items;
+      ended = a.ended;
+    }) };
+}
+
+/// A call with the same values.
+fn copy_call(alloc: Global, call: &Call) -> Result<Call, OutOfMemory>
+    ensures { IfOk result (λ copy. copy ≡ call.now) }
+{
+    Ok(match call {
+        Call::Enter { name, mode, how } => Call::Enter {
+            name: name.copy()?,
+            mode: *mode,
+            how: *how,
+        },
+        Call::Create { name, perms } => Call::Create {
+            name: name.copy()?,
+            perms: *perms,
+        },
+        Call::Read { fd, off, len } => Call::Read {
+            fd: *fd,
+            off: *off,
+            len: *len,
+        },
+        Call::Write { fd, off, bytes } => Call::Write {
+            fd: *fd,
+            off: *off,
+            bytes: bytes.copy()?,
+        },
+        Call::Truncate { fd, size } => Call::Truncate {
+            fd: *fd,
+            size: *size,
+        },
+        Call::Unlink { name } => Call::Unlink { name: name.copy()? },
+        Call::Size { fd } => Call::Size { fd: *fd },
+        Call::Map { fd } => Call::Map { fd: *fd },
+        Call::Close { fd } => Call::Close { fd: *fd },
+        Call::RawRead { vba, range } => Call::RawRead {
+            vba: *vba,
+            range: *range,
+        },
+        Call::RawWrite { vba, lo, bytes } => Call::RawWrite {
+            vba: *vba,
+            lo: *lo,
+            bytes: bytes.copy()?,
+        },
+    })
+}
+
+/// The call's own next action, once it may begin and has nothing to revoke.
+fn own_act(
+    fs: &Fs,
+    descriptors: &Descriptors,
+    call: &Call,
+    process: Pid,
+    running: &RunningCall,
+    outstanding: &[u8],
+) -> Option<Act>
+    requires { IsCall call.now }
+    ensures { AtPlace fs.now descriptors.now.rows call.now process running.now.opened
+        (λ s p. ArePieceMarksOf running.now outstanding.now p.before → result ≡ own_act s
+        (holder_in descriptors.now.held) (record { place = p; outstanding = outstanding.now }) call.now) }
+{
+    let table = descriptors.table();
+    match call {
+        Call::Enter {
+            how: How::Plain,
+            ..
+        } => open_file(fs, table, call, process, running),
+        Call::Enter {
+            how: How::Direct,
+            ..
+        } => open_directly(fs, table, call, process, running),
+        Call::Create { .. } => Some(Act::Created),
+        Call::Read { .. } | Call::Write { .. } => {
+            pieces_act(fs, descriptors, call, process, running, outstanding)
+        }
+        Call::Truncate { size, .. } => truncate(fs, table, call, process, running, *size),
+        Call::Unlink { .. } => unlink(fs, table, call, process, running),
+        Call::Size { .. } => tell_size(fs, table, call, process, running),
+        Call::Map { fd } => attach_by(fs, table, process, *fd),
+        Call::Close { .. } => Some(Act::Closed),
+        Call::RawRead { .. } | Call::RawWrite { .. } => {
+            submit_or_poll(table, call, process, running, outstanding)
+        }
+    }
+}
+
+/// The next action of a read or a write.
+fn pieces_act(
+    fs: &Fs,
+    descriptors: &Descriptors,
+    call: &Call,
+    process: Pid,
+    running: &RunningCall,
+    outstanding: &[u8],
+) -> Option<Act>
+    requires { IsCall call.now }
+    ensures { AtPlace fs.now descriptors.now.rows call.now process running.now.opened
+        (λ s p. ArePieceMarksOf running.now outstanding.now p.before → result
+        ≡ option_or (submit_or_poll s (record { place = p; outstanding = outstanding.now }))
+        (kernel_part s (holder_in descriptors.now.held) p)) }
+{
+    let act = submit_or_poll(descriptors.table(), call, process, running, outstanding);
+    if act.is_some() {
+        return act;
+    }
+    kernel_part(fs, descriptors, call, process, running)
+}
+
+/// What keeps the call of a process of this user from beginning, where it has not begun.
+fn first_act(
+    fs: &Fs,
+    descriptors: &Descriptors,
+    call: &Call,
+    process: Pid,
+    uid: u32,
+    running: &RunningCall,
+    begun: bool,
+) -> Option<Act>
+    ensures { AtPlace fs.now descriptors.now.rows call.now process running.now.opened
+        (λ s p. user_of s process ≡ uid → result ≡ cond begun None
+        (before_beginning s (holder_in descriptors.now.held) p (first_refusal s process call.now))) }
+{
+    if begun {
+        return None;
+    }
+    let reason = first_refusal(fs, descriptors.table(), process, uid, call);
+    before_beginning(fs, descriptors, call, process, running, reason)
+}
+
+/// What a call does that has begun, or may begin: first it revokes the rights that it has to.
+fn act_in_course(
+    fs: &Fs,
+    descriptors: &Descriptors,
+    call: &Call,
+    process: Pid,
+    running: &RunningCall,
+    outstanding: &[u8],
+) -> Option<Act>
+    requires { IsCall call.now }
+    ensures { AtPlace fs.now descriptors.now.rows call.now process running.now.opened
+        (λ s p. ArePieceMarksOf running.now outstanding.now p.before → result
+        ≡ option_or (revoke (keys_to_revoke s p call.now)) (own_act s (holder_in descriptors.now.held)
+        (record { place = p; outstanding = outstanding.now }) call.now)) }
+{
+    let keys = keys_to_revoke(fs, descriptors.table(), call, process, running);
+    let act = revoke(keys);
+    if act.is_some() {
+        return act;
+    }
+    own_act(fs, descriptors, call, process, running, outstanding)
+}
+
+impl KernelCall {
+    /// A call that has done nothing yet. The only error is that no memory is found.
+    pub fn begin(alloc: Global, call: &Call, process: Pid, uid: u32) -> Result<KernelCall, OutOfMemory>
+        requires { IsCall call.now }
+        ensures call { IfOk result (λ c. c.call ≡ call.now) }
+        ensures process { IfOk result (λ c. c.process ≡ process) }
+        ensures user { IfOk result (λ c. c.uid ≡ uid) }
+        ensures entries { IfOk result (λ c. AreEntriesOf c []) }
+        ensures outstanding { IfOk result (λ c. c.outstanding ≡ []) }
+        ensures runs { IfOk result (λ c. c.ended ≡ false) }
+    {
+        let copy = copy_call(alloc, call)?;
+        let running = RunningCall::new(alloc)?;
+        Ok(KernelCall {
+            call: copy,
+            process,
+            uid,
+            running,
+            outstanding: ArrayVec::new(),
+            ended: false,
+        })
+    }
+
+    /// Whether the call has begun: it has an entry, or a command of it is outstanding.
+    fn has_begun(&self) -> bool
+        ensures { (before : List Entry) → AreEntriesOf self.now before → (number : ℕ) → result
+            ≡ has_begun (record {
+              place = place_of self.now.call self.now.process number before;
+              outstanding = self.now.outstanding;
+            }) }
+    {
+        !self.outstanding.is_empty() || self.running.has_begun()
+    }
+
+    /// The first action of the call that is still needed; None where there is none.
+    ///
+    /// Busy tells the file and the process that holds it; Refuse has the reason, and the piece where one alone is
+    /// refused.
+    pub fn next(&self, fs: &Fs, descriptors: &Descriptors) -> Option<Act>
+        ensures { IsNextAct fs.now descriptors.now self.now result }
+    {
+        let begun = self.has_begun();
+        let act = first_act(
+            fs,
+            descriptors,
+            &self.call,
+            self.process,
+            self.uid,
+            &self.running,
+            begun,
+        );
+        if act.is_some() {
+            return act;
+        }
+        act_in_course(
+            fs,
+            descriptors,
+            &self.call,
+            self.process,
+            &self.running,
+            self.outstanding.as_slice(),
+        )
+    }
+
+    /// Whether the call's last action was carried out.
+    pub fn ended(&self) -> bool
+        ensures { result ≡ self.now.ended }
+    {
+        self.ended
+    }
+}

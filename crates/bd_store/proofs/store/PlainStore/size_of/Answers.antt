@@ -1,6 +1,0 @@
-use Rattle.std.proofs.Common.{sym}
-use Rattle.bd_store.proofs.store.PlainStore.size_of.Goals as goal
-
-pub returns-in-Some-clause-in_range : goal.returns-in-Some-clause-in_range
-returns-in-Some-clause-in_range c =
-    (c.in-Some.ensures.valid.each c.args.file c.in-Some.inode.now (sym c.in-Some.ensures.found)).size_in_range
