@@ -15,19 +15,16 @@ ghost use Rattle.bd_kernel.specs.Turns.{ArePieceMarksOf, AreEntriesOf, IsNextAct
 use crate::beginning::before_beginning;
 use crate::descriptors::Descriptors;
 use crate::files::{attach_by, open_directly, open_file, tell_size, truncate, unlink};
+use crate::outstanding::Outstanding;
 use crate::pieces::{kernel_part, submit_or_poll};
 use crate::refusals::first_refusal;
 use crate::revocation::{keys_to_revoke, revoke};
 use crate::running_call::RunningCall;
-use arrayvec::ArrayVec;
-use bd_base::{Call, How, OutOfMemory, PIECES, Pid};
+use bd_base::{Call, How, OutOfMemory, Pid};
 use bd_entry::Act;
 use bd_fs::Fs;
 use std::alloc::Global;
 use std::marker::Model;
-
-/// How many pieces a call may have.
-const PIECE_COUNT: usize = PIECES as usize;
 
 /// A call of a process that was begun, and how far it is.
 #[derive(Drop)]
@@ -36,8 +33,8 @@ pub struct KernelCall {
     process: Pid,
     uid: u32,
     running: RunningCall,
-    // The pieces whose commands are submitted and not polled, in the order of their submission.
-    outstanding: ArrayVec<u8, PIECE_COUNT>,
+    // The pieces whose commands are submitted and not polled.
+    outstanding: Outstanding,
     // Whether its last action was carried out.
     ended: bool,
 }
@@ -52,7 +49,7 @@ impl Model for KernelCall {
       process = a.process;
       uid = a.uid;
       marks = a.running;
-      outstanding = a.outstanding.items;
+      outstanding = a.outstanding;
       ended = a.ended;
     } };
 
@@ -61,7 +58,7 @@ impl Model for KernelCall {
       process = a.process;
       uid = a.uid;
       marks = a.running;
-      outstanding = a.outstanding.items;
+      outstanding = a.outstanding;
       ended = a.ended;
     }) };
 }
@@ -233,7 +230,7 @@ impl KernelCall {
             process,
             uid,
             running,
-            outstanding: ArrayVec::new(),
+            outstanding: Outstanding::new(),
             ended: false,
         })
     }

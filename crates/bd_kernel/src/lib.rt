@@ -8,6 +8,7 @@ mod descriptors;
 mod files;
 mod kernel_call;
 mod marks;
+mod outstanding;
 mod part_set;
 mod pieces;
 mod place;

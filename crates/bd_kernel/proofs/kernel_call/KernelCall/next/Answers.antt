@@ -20,7 +20,7 @@ returns-then-is_some c =
     (λ uids bytes work user number before entries.
     let s = store_of fs table.rows uids bytes work in
     let p = place_of i.call i.process number before in
-    let r : Running = record { place = p; outstanding = i.outstanding.items } in
+    let r : Running = record { place = p; outstanding = i.outstanding } in
     let refused = before_beginning s holders p (first_refusal s i.process i.call) in
     let begun : c.has_begun-begun.result ≡ has_begun r =
     subst
@@ -42,7 +42,7 @@ returns c =
     (λ uids bytes work user number before entries.
     let s = store_of fs table.rows uids bytes work in
     let p = place_of i.call i.process number before in
-    let r : Running = record { place = p; outstanding = i.outstanding.items } in
+    let r : Running = record { place = p; outstanding = i.outstanding } in
     let refused = before_beginning s holders p (first_refusal s i.process i.call) in
     let begun : c.has_begun-begun.result ≡ has_begun r =
     subst
@@ -56,5 +56,5 @@ returns c =
     subst
     (λ (out : List ℕ). ArePieceMarksOf i.running out before → c.act_in_course.result
     ≡ option_or (revoke (keys_to_revoke s p i.call)) (own_act s holders (record { place = p; outstanding = out }) i.call))
-    c.as_slice.ensures.value (c.act_in_course.ensures uids bytes work number before entries.opened) entries.pieces in
+    c.as_slice.ensures (c.act_in_course.ensures uids bytes work number before entries.opened) entries.pieces in
     later ∙ or-rest c.first_act-act.result rest (sym c.is_some.ensures ∙ c.if-is_some.false) ∙ ap (λ (o : Option Act). option_or o rest) first)
