@@ -68,7 +68,8 @@ line_at basis process number processes p calls call notes is all inside p_is of_
     (stands processes basis.script.now.processes process p all (subst (λ (l : List Process). process < length l) (sym all) inside) p_is)
     (stands calls p.calls number call of_p few call_is) told_is
 
-pub is_of_ended : (script : Script) (journal : List Entry) (at : At) (call : Call) (notes : Notes) → IsLineOf script journal at call notes → IsOfEnded call notes
+pub is_of_ended : (script : Script) (journal : List Entry) (at : At) (call : Call) (notes : Notes) →
+    IsLineOf script journal at call notes → IsOfEnded call notes
 is_of_ended script journal at call notes line = record { entries = entries_of at journal; tells = line.tells; ended = line.ended }
 
 -- the reply of a call of the script

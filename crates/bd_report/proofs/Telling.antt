@@ -93,7 +93,8 @@ noted_answers call entries notes ok tells =
     (λ k below. tells.answers k (omega (arith, few, below)) ∙ (let same : k ≡ 0 + k = omega arith in ap (answer_of entries) same))
 
 -- the reply of a call that no entry ends alone
-pub ended_text-by_pieces : (call : Call) (entries : List Entry) (notes : Notes) → AreNotesOf call entries notes → notes.end ≡ None → (answers : List (Option Entry)) →
+pub ended_text-by_pieces : (call : Call) (entries : List Entry) (notes : Notes) → AreNotesOf call entries notes → notes.end ≡ None →
+    (answers : List (Option Entry)) →
     ended_text call None answers ≡ ended_text call (end_of call entries) answers
 ended_text-by_pieces call entries notes tells none answers =
     ap (λ (o : Option Entry). ended_text call o answers) (sym (ap option_copied none) ∙ tells.end)

@@ -53,7 +53,8 @@ pub record IsFirstRefusal (answers : List (Option Entry)) (number : ℕ) (reason
 -- a write that no entry ends alone, and of which a piece was refused, tells why the first of these pieces was
 abbrev pub WritesTellFirstRefusal : Type 0
 WritesTellFirstRefusal =
-    (script : Script) (journal : List Entry) (at : At) (fd off : ℕ) (bytes : List ℕ) (number : ℕ) (reason : Reason) →
+    (script : Script) (journal : List Entry) (at : At) (fd off : ℕ) (bytes : List ℕ) (number : ℕ)
+    (reason : Reason) →
     call_at script at ≡ Some (Write fd off bytes) → end_of (Write fd off bytes) (entries_of at journal) ≡ None →
     IsFirstRefusal (answers_of (Write fd off bytes) (entries_of at journal)) number reason →
     reply_text script journal at ≡ reason_text reason
