@@ -8,12 +8,12 @@ use Rattle.bd_base.specs.declared.limits.TheConstants.{BLOCK_SIZE, DESCRIPTORS, 
 use Rattle.bd_base.specs.declared.script.Process.{Process}
 use Rattle.bd_base.specs.declared.volume.Inode.{Inode}
 use Rattle.bd_base.specs.declared.volume.Volume.{Volume}
-use Rattle.bd_base.specs.Scripts.{IsCall, IsItem, IsProcess, IsSchedule, IsWithinLimits}
+use Rattle.bd_base.specs.Scripts.{IsCall, IsProcess, IsSchedule, IsWithinLimits}
 use Rattle.bd_base.specs.Volumes.{IsSoundVolume}
 use Rattle.bd_entry.specs.declared.entry.Entry.{Entry}
 use Rattle.bd_entry.specs.Store.{Descriptor}
 use Rattle.bd_entry.proofs.StoreLaws.{start_is_valid}
-use Rattle.bd_store.specs.Kept.{AreIdle, AreMarked, IsKept, Kept, Represents, idle_script, no_marks, start_of, store_of}
+use Rattle.bd_store.specs.Kept.{AreIdle, IsKept, Kept, Represents, idle_script, no_marks, start_of, store_of}
 use Rattle.bd_store.specs.Marks.{AreMarksOf, Marks}
 
 -- a process that calls nothing

@@ -1,5 +1,5 @@
 -- What a plain store keeps, and the stores of the definitions that it stands for.
-use Rattle.std.specs.Prelude.{All, ◌≡◌, ◌↔◌, ℕ, ◌*◌, Bool, true, false, Option, None, Some, List, [], length, map, replicate, slice_index_or}
+use Rattle.std.specs.Prelude.{All, ◌≡◌, ◌↔◌, ℕ, ◌*◌, Bool, true, false, Option, None, Some, List, [], length, map, slice_index_or}
 use Rattle.bd_base.specs.declared.journal.At.{At}
 use Rattle.bd_base.specs.declared.limits.TheConstants.{BLOCK_SIZE}
 use Rattle.bd_base.specs.declared.script.Call.{Call}
@@ -11,7 +11,7 @@ use Rattle.bd_base.specs.Rules.{IsLeastBroken}
 use Rattle.bd_entry.specs.declared.entry.Entry.{Entry}
 use Rattle.bd_entry.specs.Calls.{Place, at_of}
 use Rattle.bd_entry.specs.Rules.{EntryRule, FitsStore, entry_rule_number, place_in}
-use Rattle.bd_entry.specs.Store.{Descriptor, Store, Valid, start_store, work_of}
+use Rattle.bd_entry.specs.Store.{Descriptor, Store, Valid, start_store}
 use Rattle.bd_store.specs.Marks.{AreMarksOf, Marks}
 
 -- a store with marks of the entries of each running call in their place

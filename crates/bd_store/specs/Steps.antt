@@ -4,7 +4,7 @@ use Rattle.bd_base.specs.declared.script.Call.{Call}
 use Rattle.bd_base.specs.declared.limits.TheConstants.{BLOCK_SIZE}
 use Rattle.bd_base.specs.declared.volume.Inode.{Inode}
 use Rattle.bd_base.specs.Files.{blocks_for}
-use Rattle.bd_base.specs.Inodes.{blocks_of_slot, create_refusal, existing_file, free_id, growth_block, growth_refusal, inode_at}
+use Rattle.bd_base.specs.Inodes.{create_refusal, existing_file, free_id, growth_block, growth_refusal, inode_at}
 use Rattle.bd_entry.specs.declared.entry.Entry.{Entry}
 use Rattle.bd_entry.specs.declared.entry.Entry.TheVariants.{Access, Attached, Closed, Created, Detached, Extended, Opened, Released, Sized, Unlinked}
 use Rattle.bd_entry.specs.Calls.{at_of}
@@ -12,7 +12,7 @@ use Rattle.bd_base.specs.Inodes.{empty_file}
 use Rattle.bd_entry.specs.Laws.{IsNextEntry}
 use Rattle.bd_entry.specs.Rules.{EntryRule, FitsStore, place_in}
 use Rattle.bd_entry.specs.RulesOfRights.{TheDescriptor}
-use Rattle.bd_entry.specs.Store.{Descriptor, Store, pairs_of_slot, size_at, with_file}
+use Rattle.bd_entry.specs.Store.{Store, pairs_of_slot, size_at, with_file}
 use Rattle.bd_store.specs.Changes.{has_right, slot_at}
 use Rattle.bd_store.specs.Kept.{Kept, bare, marks_at}
 use Rattle.bd_store.specs.Marks.{noted}
