@@ -1,7 +1,7 @@
 -- How the number of pairs with a right changes, as one right joins or leaves.
-use Rattle.std.proofs.Common.{◌≡◌, ℕ, ◌+◌, ◌<◌, ◌≤◌, Bool, true, false, ◌||◌, ◌&&◌, cond, not, Option, None, Some, List, [], ◌∷◌, length, map, zero, suc, refl, sym, ap, ◌∙◌, subst, arith, set, get_or, inl, inr, ⊎_elim}
+use Rattle.std.proofs.Common.{◌≡◌, ℕ, ◌+◌, ◌<◌, ◌≤◌, Bool, true, false, ◌||◌, ◌&&◌, cond, not, Option, None, List, [], ◌∷◌, length, map, zero, suc, refl, sym, ap, ◌∙◌, subst, arith, set, get_or, ⊎_elim}
 use Rattle.std.specs.Prelude.{nat_eq, nat_lt}
-use Rattle.std.specs.List.{AllByRecursion, IsDistinct, filter, flat_map, list_any}
+use Rattle.std.specs.List.{AllByRecursion, IsDistinct, flat_map, list_any}
 use Rattle.std.proofs.lemmas.Bool.{and_from, both_ways, cases_Bool, cond_both, eq-eqb, eqb-true, false_from_ne_true, not-false, or_cases, or_left, or_parts, or_right}
 use Rattle.std.proofs.lemmas.Bool.Decides.{nat_tests}
 use Rattle.std.proofs.lemmas.Map.Keys.{IsDistinct-cons}

@@ -1,5 +1,5 @@
 -- Sets of parts as marks: what a mark says, and what setting or clearing one does.
-use Rattle.std.proofs.Common.{◌≡◌, ℕ, ◌+◌, ◌<◌, ◌≤◌, Bool, true, false, ◌||◌, cond, not, List, [], ◌∷◌, length, zero, suc, refl, sym, ap, ◌∙◌, subst, arith, set, get_or, add-zero}
+use Rattle.std.proofs.Common.{◌≡◌, ℕ, ◌+◌, ◌<◌, Bool, true, false, ◌||◌, not, List, [], ◌∷◌, length, zero, suc, refl, sym, ap, ◌∙◌, arith, set, get_or, add-zero}
 use Rattle.std.specs.Prelude.{nat_eq, nat_lt, count_by}
 use Rattle.std.proofs.lemmas.Bool.Decides.{nat_tests}
 use Rattle.std.proofs.lemmas.Bool.{cond-true, cond-false}

@@ -1,12 +1,11 @@
 -- What is kept of the entries of a running call: marks of those that the rules ask about.
-use Rattle.std.specs.Prelude.{◌≡◌, ℕ, ◌<◌, Bool, true, false, nat_lt, Option, None, Some, List, length, slice_index_or, slice_set}
+use Rattle.std.specs.Prelude.{◌≡◌, ℕ, ◌<◌, Bool, true, false, nat_lt, Option, Some, List, length, slice_index_or, slice_set}
 use Rattle.std.specs.Option.{option_or}
-use Rattle.bd_base.specs.declared.key.Key.{Key}
 use Rattle.bd_base.specs.declared.key_list.TheConstants.{MOST_KEYS}
 use Rattle.bd_base.specs.declared.limits.TheConstants.{DESCRIPTORS, PARTS, PIECES, PROCESSES}
 use Rattle.bd_base.specs.Keys.{key_number}
 use Rattle.bd_entry.specs.declared.entry.Entry.{Entry}
-use Rattle.bd_entry.specs.declared.entry.Entry.TheVariants.{Access, Attached, Cleared, Closed, Created, Detached, Extended, Mapped, Missed, Opened, Refused, Released, SizeRead, Sized, Unlinked}
+use Rattle.bd_entry.specs.declared.entry.Entry.TheVariants.{Access, Cleared, Missed, Opened, Refused}
 use Rattle.bd_entry.specs.Calls.{has_cleared, has_missed, is_answered, opened_fd}
 
 -- whether there is an entry, the descriptor of its Opened, and marks of the pieces that are answered, of those that

@@ -17,7 +17,7 @@ use Rattle.bd_entry.specs.declared.entry.Entry.{Entry}
 use Rattle.bd_entry.specs.Calls.{at_of, call_at, calls_of, entries_of, is_answered, is_ended_by, is_finished, same_call}
 use Rattle.bd_entry.specs.Rules.{Allowed, BreaksRule, EntryRule, FitsCall, FitsScript, FitsStore, IsOpen, KeepsRule, NextCall, NoPlain, NotRefused, Once, RightBlock, RightBytes, RightFile, RightWay, Rights, WithinLimit, entry_rule_number, place_in}
 use Rattle.bd_entry.specs.RulesOfCalls.{IsFirstOfKind, IsNextCall, IsOfCall}
-use Rattle.bd_entry.specs.Store.{Store, work_of}
+use Rattle.bd_entry.specs.Store.{Store}
 use Rattle.bd_entry.proofs.CallOrder.{IsOrdered, is_finished-other, numbered, other_process, stays_finished}
 use Rattle.bd_entry.proofs.HistoryLaws.{IsLed, is_call, process_there}
 use Rattle.bd_store.specs.Kept.{BreaksAt, Kept, Represents, marks_at}

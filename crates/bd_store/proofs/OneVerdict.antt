@@ -1,9 +1,9 @@
 -- A journal has one verdict.
-use Rattle.std.proofs.Common.{◌≡◌, ℕ, ◌+◌, ◌<◌, ◌≤◌, ◌↔◌, true, false, List, [], ◌∷◌, ◌++◌, Option, None, Some, length, take, drop, zero, suc, refl, sym, ap, ◌∙◌, subst, arith, inl, inr}
+use Rattle.std.proofs.Common.{◌≡◌, ℕ, ◌<◌, ◌≤◌, ◌↔◌, false, List, [], ◌∷◌, ◌++◌, Option, None, Some, length, take, drop, zero, suc, refl, sym, ap, ◌∙◌, subst, arith, inl, inr}
 use Rattle.std.specs.Prelude.{IfSome, slice_get, slice_index}
 use Rattle.std.specs.Option.{option_map_or}
 use Rattle.std.proofs.lemmas.Bool.{both_ways, cases_order}
-use Rattle.std.proofs.lemmas.Option.{none-some, same_Some, slice_get_cases, slice_get_within}
+use Rattle.std.proofs.lemmas.Option.{none-some, same_Some, slice_get_cases}
 use Rattle.bd_base.specs.declared.journal.At.{At}
 use Rattle.bd_base.specs.declared.script.Call.{Call}
 use Rattle.bd_base.specs.declared.script.Process.{Process}
@@ -20,7 +20,7 @@ use Rattle.bd_entry.proofs.RuleLaws.{one_least_rule}
 use Rattle.bd_store.specs.declared.check.Verdict.{Verdict}
 use Rattle.bd_store.specs.declared.check.Verdict.TheVariants.{Legal, NotLegal, Unfinished}
 use Rattle.bd_store.specs.Kept.{Kept}
-use Rattle.bd_store.specs.Verdicts.{AreFinished, BreaksFirst, IsFirstLess, IsLegalInOrder, LacksEndOf}
+use Rattle.bd_store.specs.Verdicts.{BreaksFirst, IsFirstLess, IsLegalInOrder, LacksEndOf}
 use Rattle.bd_store.proofs.JournalWork.{IsFollowed, led_to}
 
 -- ---- lists in two parts

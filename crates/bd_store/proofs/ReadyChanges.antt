@@ -1,8 +1,8 @@
 -- An entry that is ready asks of the store only what holds there.
-use Rattle.std.proofs.Common.{◌≡◌, ℕ, ◌+◌, ◌*◌, ◌/◌, ◌<◌, ◌≤◌, Bool, true, false, nat_lt, cond, unwrap_or, List, [], ◌∷◌, ◌++◌, map, length, replicate, slice_set, Option, None, Some, arith, refl, sym, ap, ◌∙◌, inl, inr, subst}
+use Rattle.std.proofs.Common.{◌≡◌, ℕ, ◌+◌, ◌*◌, ◌<◌, ◌≤◌, true, false, nat_lt, unwrap_or, List, [], map, length, replicate, slice_set, Option, None, Some, arith, refl, sym, ap, ◌∙◌, inl, inr, subst}
 use Rattle.std.specs.Prelude.{IsSome, IsTrue, slice_get}
 use Rattle.std.specs.Option.{option_map, option_map_or}
-use Rattle.std.proofs.lemmas.Bool.{and_parts, both_ways, cases_Bool, cond-false, cond-true, false≢true, ltb-true, or_left}
+use Rattle.std.proofs.lemmas.Bool.{and_parts, cases_Bool, cond-false, cond-true, false≢true, ltb-true}
 use Rattle.std.proofs.lemmas.Bool.Decides.{nat_tests}
 use Rattle.std.proofs.lemmas.Option.{none-some}
 use Rattle.bd_base.specs.declared.limits.TheConstants.{BLOCK_SIZE, FILE_SIZE, PIECES}
@@ -23,14 +23,11 @@ use Rattle.bd_base.proofs.ValidFiles.{IsFree-from}
 use Rattle.bd_fs.specs.Files.{Files, with_file}
 use Rattle.bd_entry.specs.declared.entry.Entry.{Entry}
 use Rattle.bd_entry.specs.declared.entry.Entry.TheVariants.{Access, Attached, Closed, Created, Detached, Extended, Missed, Opened, Refused, Released, Sized, Unlinked}
-use Rattle.bd_entry.specs.Calls.{at_of, bytes_for_piece, is_end_of, is_ended_by, is_made_by}
+use Rattle.bd_entry.specs.Calls.{bytes_for_piece}
 use Rattle.bd_entry.specs.Effects.{with_bytes_at, with_growth}
-use Rattle.bd_entry.specs.Laws.{AreOfCall, IsNextEntry}
 use Rattle.bd_entry.specs.Refusals.{goal_of}
 use Rattle.bd_entry.specs.Rules.{IsOpen, NotRefused, RightBlock, RightBytes, RightFile, Rights, WithinLimit, place_in}
-use Rattle.bd_entry.specs.RulesOfCalls.{IsOfCall}
 use Rattle.bd_entry.specs.Store.{Descriptor, Store, Valid, file_in, pairs_of_slot, size_at, work_of}
-use Rattle.bd_entry.proofs.CallEntries.{AreOfCall-parts}
 use Rattle.bd_entry.proofs.CallPieces.{All-slice_get, bytes_for_piece-length, piece_of_call-in_block}
 use Rattle.bd_entry.proofs.ChangedStores.{file_of-there}
 use Rattle.bd_entry.proofs.DescriptorSteps.{lowest_fd-free}

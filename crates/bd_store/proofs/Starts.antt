@@ -8,7 +8,7 @@ use Rattle.bd_base.specs.declared.limits.TheConstants.{BLOCK_SIZE, DESCRIPTORS, 
 use Rattle.bd_base.specs.declared.script.Process.{Process}
 use Rattle.bd_base.specs.declared.volume.Inode.{Inode}
 use Rattle.bd_base.specs.declared.volume.Volume.{Volume}
-use Rattle.bd_base.specs.Scripts.{IsCall, IsItem, IsProcess, IsSchedule, IsWithinLimits}
+use Rattle.bd_base.specs.Scripts.{IsCall, IsProcess, IsSchedule, IsWithinLimits}
 use Rattle.bd_base.specs.Volumes.{IsSoundVolume}
 use Rattle.bd_entry.specs.declared.entry.Entry.{Entry}
 use Rattle.bd_entry.specs.Store.{Descriptor}

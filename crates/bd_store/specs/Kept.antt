@@ -1,5 +1,5 @@
 -- What a plain store keeps, and the stores of the definitions that it stands for.
-use Rattle.std.specs.Prelude.{All, ◌≡◌, ◌↔◌, ℕ, ◌*◌, Bool, true, false, Option, None, Some, List, [], length, map, replicate, slice_index_or}
+use Rattle.std.specs.Prelude.{All, ◌≡◌, ◌↔◌, ℕ, ◌*◌, Bool, true, false, Option, None, Some, List, [], length, map, slice_index_or}
 use Rattle.bd_base.specs.declared.journal.At.{At}
 use Rattle.bd_base.specs.declared.limits.TheConstants.{BLOCK_SIZE}
 use Rattle.bd_base.specs.declared.script.Call.{Call}

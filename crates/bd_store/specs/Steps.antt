@@ -4,7 +4,7 @@ use Rattle.bd_base.specs.declared.script.Call.{Call}
 use Rattle.bd_base.specs.declared.limits.TheConstants.{BLOCK_SIZE}
 use Rattle.bd_base.specs.declared.volume.Inode.{Inode}
 use Rattle.bd_base.specs.Files.{blocks_for}
-use Rattle.bd_base.specs.Inodes.{blocks_of_slot, create_refusal, existing_file, free_id, growth_block, growth_refusal, inode_at}
+use Rattle.bd_base.specs.Inodes.{create_refusal, existing_file, free_id, growth_block, growth_refusal, inode_at}
 use Rattle.bd_entry.specs.declared.entry.Entry.{Entry}
 use Rattle.bd_entry.specs.declared.entry.Entry.TheVariants.{Access, Attached, Closed, Created, Detached, Extended, Opened, Released, Sized, Unlinked}
 use Rattle.bd_entry.specs.Calls.{at_of}

@@ -1,4 +1,4 @@
-use Rattle.std.proofs.Common.{◌≡◌, ℕ, Bool, ◌&&◌, Some, sym, ap, ◌∙◌}
+use Rattle.std.proofs.Common.{ℕ, Bool, ◌&&◌, Some, sym, ap, ◌∙◌}
 use Rattle.bd_entry.specs.Store.{has_part}
 use Rattle.bd_kernel.specs.Changes.{uses_pair}
 use Rattle.bd_kernel.proofs.PairCounts.{pairs-of_file}

@@ -1,4 +1,4 @@
-use Rattle.std.proofs.Common.{◌≡◌, ◌↔◌, ℕ, Err, List, Some, None, length, take, subst, sym, ap, ◌∙◌, arith}
+use Rattle.std.proofs.Common.{◌≡◌, ◌↔◌, ℕ, Err, List, Some, None, subst, sym, ap, arith}
 use Rattle.std.proofs.lemmas.List.{take_all}
 use Rattle.bd_entry.specs.declared.entry.Entry.{Entry}
 use Rattle.bd_store.specs.declared.check.Verdict.TheVariants.{Legal, NotLegal, Unfinished}

@@ -1,9 +1,8 @@
-use Rattle.std.proofs.Common.{◌≡◌, ℕ, ◌<◌, List, [], length, subst, sym, ap, ◌∙◌, arith}
+use Rattle.std.proofs.Common.{ℕ, ◌<◌, List, length, subst, sym, ap, ◌∙◌}
 use Rattle.std.specs.Prelude.{All, slice_index}
 use Rattle.std.proofs.lemmas.List.{length-replicate}
 use Rattle.bd_base.specs.declared.limits.TheConstants.{USERS}
 use Rattle.bd_base.specs.declared.script.Process.{Process}
-use Rattle.bd_entry.specs.Store.{Store}
 use Rattle.bd_store.specs.Kept.{Represents, start_of}
 use Rattle.bd_store.proofs.NextEntries.{finished_at_start}
 use Rattle.bd_store.proofs.StartStores.{replicate_at, start_of-users, uids_of, users_within}

@@ -1,4 +1,4 @@
-use Rattle.std.proofs.Common.{◌≡◌, ℕ, ◌+◌, ◌<◌, true, false, Ok, Err, List, [], ◌∷◌, ◌++◌, Some, take, refl, sym, ap, ◌∙◌, subst, arith}
+use Rattle.std.proofs.Common.{◌≡◌, ℕ, ◌+◌, true, false, Err, List, [], ◌∷◌, ◌++◌, take, refl, sym, ap, ◌∙◌, subst, arith}
 use Rattle.std.specs.Prelude.{slice_index, slice_set}
 use Rattle.std.specs.Option.{option_copied}
 use Rattle.std.proofs.lemmas.Result.{err_from_is_err_and}
@@ -8,7 +8,6 @@ use Rattle.bd_entry.specs.declared.entry.Entry.{Entry}
 use Rattle.bd_entry.specs.Calls.{at_of, call_at}
 use Rattle.bd_entry.specs.Rules.{BreaksRule}
 use Rattle.bd_entry.specs.Store.{Store}
-use Rattle.bd_store.specs.declared.store.ApplyError.TheVariants.{Broken}
 use Rattle.bd_store.specs.Kept.{marks_at}
 use Rattle.bd_store.specs.Verdicts.{AreFinished, IsTaken}
 use Rattle.bd_store.proofs.JournalWork.{take-push}

@@ -3,7 +3,6 @@ use Rattle.std.proofs.lemmas.List.{length-replicate, take-replicate}
 use Rattle.std.proofs.lemmas.List.Elements.{All-replicate}
 use Rattle.std.proofs.lemmas.Option.{none-some}
 use Rattle.bd_base.specs.declared.volume.Inode.{Inode}
-use Rattle.bd_base.specs.declared.volume.Volume.{Volume}
 use Rattle.bd_base.specs.Inodes.{inode_at}
 use Rattle.bd_base.specs.Volumes.{IsSoundVolume}
 use Rattle.bd_fs.proofs.NoFiles.{AreValidFiles-none}

@@ -1,5 +1,4 @@
-use Rattle.std.proofs.Common.{◌≡◌, ℕ, ◌+◌, ◌-◌, ◌<◌, ◌≤◌, true, false, not, ap, sym, ◌∙◌, arith}
-use Rattle.std.proofs.lemmas.Bool.{not-true}
+use Rattle.std.proofs.Common.{◌≡◌, true, not, ap, sym, ◌∙◌, arith}
 use Rattle.bd_base.proofs.Lists.{wrapped}
 use Rattle.bd_base.proofs.Ranges.{find-range, find-range_none}
 use Rattle.bd_entry.specs.Store.{has_part}

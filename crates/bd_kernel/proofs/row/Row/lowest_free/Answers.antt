@@ -1,4 +1,4 @@
-use Rattle.std.proofs.Common.{◌≡◌, ℕ, ◌<◌, List, Option, length, ap, ◌∙◌, arith}
+use Rattle.std.proofs.Common.{◌<◌, List, Option, length, ap, ◌∙◌, arith}
 use Rattle.std.specs.Prelude.{position}
 use Rattle.bd_base.specs.declared.limits.TheConstants.{DESCRIPTORS}
 use Rattle.bd_base.proofs.Lists.{wrapped}

@@ -1,4 +1,4 @@
-use Rattle.std.proofs.Common.{◌≡◌, ◌≤◌, arith}
+use Rattle.std.proofs.Common.{◌≤◌, arith}
 use Rattle.bd_base.specs.declared.limits.TheConstants.{PROCESSES}
 use Rattle.bd_kernel.proofs.CountedRows.{none_counted}
 use Rattle.bd_kernel.proofs.table.DescriptorTable.new.Goals as goal

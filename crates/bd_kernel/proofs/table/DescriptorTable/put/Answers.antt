@@ -1,4 +1,4 @@
-use Rattle.std.proofs.Common.{◌≡◌, ℕ, ◌<◌, [], length, ap, sym, ◌∙◌, subst, rules}
+use Rattle.std.proofs.Common.{◌≡◌, ℕ, ◌<◌, [], length, ap, sym, ◌∙◌, subst}
 use Rattle.bd_entry.specs.Store.{pairs_of_slot}
 use Rattle.bd_kernel.specs.Changes.{Rows, slot_at}
 use Rattle.bd_kernel.proofs.CountedRows.{put_counted}

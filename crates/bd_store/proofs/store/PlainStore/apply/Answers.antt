@@ -1,9 +1,8 @@
-use Rattle.std.proofs.Common.{◌≡◌, ℕ, Ok, Err, None, Some, sym, ap, ◌∙◌, subst, refl}
+use Rattle.std.proofs.Common.{◌≡◌, Err, ap, ◌∙◌, subst}
 use Rattle.std.proofs.lemmas.Result.{err_from_is_err_and}
 use Rattle.bd_entry.specs.Calls.{Place, at_of}
-use Rattle.bd_entry.specs.Rules.{EntryRule, FitsStore, place_in}
+use Rattle.bd_entry.specs.Rules.{place_in}
 use Rattle.bd_store.specs.Kept.{BreaksAt, IsBroken}
-use Rattle.bd_store.specs.declared.store.ApplyError.{ApplyError}
 use Rattle.bd_store.specs.declared.store.ApplyError.TheVariants.{Broken, OutOfMemory}
 use Rattle.bd_store.proofs.Applies.{in_store, kept_all, next-piece, none_broken, one_broken}
 use Rattle.bd_store.proofs.store.PlainStore.apply.Goals as goal

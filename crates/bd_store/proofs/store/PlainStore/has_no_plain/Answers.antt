@@ -1,4 +1,4 @@
-use Rattle.std.proofs.Common.{◌≡◌, ℕ, Bool, true, false, not, Some, ◌↔◌, sym, ap, ◌∙◌, subst, rules}
+use Rattle.std.proofs.Common.{◌≡◌, true, false, not, Some, ◌↔◌, sym, ap, ◌∙◌, subst, rules}
 use Rattle.std.specs.Prelude.{is_some}
 use Rattle.std.proofs.lemmas.Bool.{not-false}
 use Rattle.bd_entry.specs.declared.entry.Entry.{Entry}

@@ -1,4 +1,4 @@
-use Rattle.std.proofs.Common.{◌≡◌, ℕ, length, refl, ap, ◌∙◌, subst}
+use Rattle.std.proofs.Common.{ℕ, refl, ap, ◌∙◌, subst}
 use Rattle.bd_fs.specs.Files.{Files}
 use Rattle.bd_store.specs.Kept.{AreIdle, Kept}
 use Rattle.bd_store.proofs.Starts.{empty_rows, started, started-parts}
