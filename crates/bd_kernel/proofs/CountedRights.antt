@@ -68,9 +68,9 @@ module _ (pairs : ℕ) (rows : Rows) (process fd part : ℕ) (d : Descriptor) (f
       let place = slot-there rows process fd d found in
       record {
         joined = λ q.
-        uses-slot rows process fd slot_with q (same_pair q pair) place.row place.slot
-        (subst (λ (slot : Option Descriptor). has_pair q (option_map (attach part) slot) ≡ (has_pair q slot || same_pair q pair)) (sym found)
-        (pairs-with_part q d.file part d.attached));
+            uses-slot rows process fd slot_with q (same_pair q pair) place.row place.slot
+            (subst (λ (slot : Option Descriptor). has_pair q (option_map (attach part) slot) ≡ (has_pair q slot || same_pair q pair)) (sym found)
+            (pairs-with_part q d.file part d.attached));
       }
 
   there-more : IsPair pair → (q : ℕ × ℕ) → list_any (same_pair q) (pairs_of_rows more) ≡ true → IsPair q
@@ -83,19 +83,19 @@ module _ (pairs : ℕ) (rows : Rows) (process fd part : ℕ) (d : Descriptor) (f
   pub counts-attached : IsPair pair → CountsAttached pairs (changed_rows rows process fd (attach part)) (uses rows pair)
   counts-attached is = record {
     first = λ unused.
-      let one : length (pairs_of_rows more) ≡ length (pairs_of_rows rows) + 1 = one_more rows more pair joins (in_use-uses pair rows ∙ unused) in
-      record {
-        few = few_rows rows process fd slot_with counted.few;
-        counted = ap (λ (n : ℕ). n + 1) counted.counted ∙ sym one;
-        there = there-more is;
-      };
+        let one : length (pairs_of_rows more) ≡ length (pairs_of_rows rows) + 1 = one_more rows more pair joins (in_use-uses pair rows ∙ unused) in
+        record {
+          few = few_rows rows process fd slot_with counted.few;
+          counted = ap (λ (n : ℕ). n + 1) counted.counted ∙ sym one;
+          there = there-more is;
+        };
     again = λ used.
-      let same : length (pairs_of_rows more) ≡ length (pairs_of_rows rows) = same_count rows more pair joins (in_use-uses pair rows ∙ used) in
-      record {
-        few = few_rows rows process fd slot_with counted.few;
-        counted = counted.counted ∙ sym same;
-        there = there-more is;
-      };
+        let same : length (pairs_of_rows more) ≡ length (pairs_of_rows rows) = same_count rows more pair joins (in_use-uses pair rows ∙ used) in
+        record {
+          few = few_rows rows process fd slot_with counted.few;
+          counted = counted.counted ∙ sym same;
+          there = there-more is;
+        };
   }
 
   leaves : has_part part d.attached ≡ true → IsJoined less rows pair
@@ -103,9 +103,9 @@ module _ (pairs : ℕ) (rows : Rows) (process fd part : ℕ) (d : Descriptor) (f
       let place = slot-there rows process fd d found in
       record {
         joined = λ q.
-        uses-before_slot rows process fd slot_without q (same_pair q pair) place.row place.slot
-        (subst (λ (slot : Option Descriptor). has_pair q slot ≡ (has_pair q (option_map (detach part) slot) || same_pair q pair)) (sym found)
-        (pairs-without_part q d.file part d.attached has));
+            uses-before_slot rows process fd slot_without q (same_pair q pair) place.row place.slot
+            (subst (λ (slot : Option Descriptor). has_pair q slot ≡ (has_pair q (option_map (detach part) slot) || same_pair q pair)) (sym found)
+            (pairs-without_part q d.file part d.attached has));
       }
 
   there-less : has_part part d.attached ≡ true → (q : ℕ × ℕ) → list_any (same_pair q) (pairs_of_rows less) ≡ true → IsPair q
@@ -119,12 +119,12 @@ module _ (pairs : ℕ) (rows : Rows) (process fd part : ℕ) (d : Descriptor) (f
       record {
         counted = λ unused. let is : pairs ≡ length (pairs_of_rows less) + 1 = one unused in omega arith;
         last = λ unused.
-          let is : pairs ≡ length (pairs_of_rows less) + 1 = one unused in
-          record {
-            few = few_rows rows process fd slot_without counted.few;
-            counted = omega arith;
-            there = there-less has;
-          };
+            let is : pairs ≡ length (pairs_of_rows less) + 1 = one unused in
+            record {
+              few = few_rows rows process fd slot_without counted.few;
+              counted = omega arith;
+              there = there-less has;
+            };
         other = λ used. record {
           few = few_rows rows process fd slot_without counted.few;
           counted = counted.counted ∙ same_count less rows pair (leaves has) (in_use-uses pair less ∙ used);

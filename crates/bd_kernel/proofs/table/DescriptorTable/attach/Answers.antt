@@ -39,7 +39,7 @@ invariant_of-self c =
     ∙ ap (λ (at : ℕ). changed_rows rows process at change) c.get-5.ensures.value) in
     let counts = counts-attached c.self.inside.pairs rows process fd c.args.part d found c.self.invariant pair in
     let counted : (pairs : ℕ) → now ≡ record { rows = c.self.inside.rows; pairs = pairs } → AreCounted pairs (changed_rows rows process fd change) →
-        AreCounted now.pairs c.change_row.new.rows =
+    AreCounted now.pairs c.change_row.new.rows =
     λ pairs is by.
     subst (λ (n : ℕ). AreCounted n c.change_row.new.rows) (sym (ap (λ (a : Inside). a.pairs) is))
     (subst (AreCounted pairs) (after (ap (λ (a : Inside). a.rows.items) is)) by) in
