@@ -47,7 +47,7 @@ pub kernel_part-moves : (s : Store) (holders : Holders) (p : Place) (number : �
     Some act ≡ kernel_part s holders p
 kernel_part-moves s holders p number piece d act found free at of moves =
     let rest : ℕ → Option Act = λ number. option_or (busy s holders p)
-        (option_and_then (λ piece. option_map (move_piece s p number piece) (descriptor_of s p)) (piece_of_call p.call number)) in
+    (option_and_then (λ piece. option_map (move_piece s p number piece) (descriptor_of s p)) (piece_of_call p.call number)) in
     ap (λ (a : Act). Some a) moves ∙ sym (ap (option_map (move_piece s p number piece)) of)
     ∙ sym (ap (option_and_then (λ piece. option_map (move_piece s p number piece) (descriptor_of s p))) at)
     ∙ sym

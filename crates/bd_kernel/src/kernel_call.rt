@@ -214,7 +214,12 @@ fn act_in_course(
 
 impl KernelCall {
     /// A call that has done nothing yet. The only error is that no memory is found.
-    pub fn begin(alloc: Global, call: &Call, process: Pid, uid: u32) -> Result<KernelCall, OutOfMemory>
+    pub fn begin(
+        alloc: Global,
+        call: &Call,
+        process: Pid,
+        uid: u32,
+    ) -> Result<KernelCall, OutOfMemory>
         requires { IsCall call.now }
         ensures call { IfOk result (λ c. c.call ≡ call.now) }
         ensures process { IfOk result (λ c. c.process ≡ process) }

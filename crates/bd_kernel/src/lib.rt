@@ -34,3 +34,6 @@ pub use refusals::{first_refusal, growth_reason, open_denial};
 pub use rights::{lowest_unattached, next_part};
 pub use running_call::RunningCall;
 pub use table::{DescriptorTable, Holder};
+
+#[cfg(test)]
+mod tests;

@@ -151,9 +151,7 @@ pub fn goal_of(
 {
     match call {
         Call::Truncate { size, .. } => Some(*size),
-        Call::Write { .. } => {
-            Some(piece_end(kernel_piece(table, call, process, running)?))
-        }
+        Call::Write { .. } => { Some(piece_end(kernel_piece(table, call, process, running)?)) }
         Call::Enter { .. }
         | Call::Create { .. }
         | Call::Read { .. }

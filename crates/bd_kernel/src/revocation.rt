@@ -7,8 +7,8 @@ ghost use Rattle.bd_entry.specs.Actions.{keys_by, keys_on, keys_to_revoke, revok
 ghost use Rattle.bd_kernel.specs.Sights.{AtPlace, bare, no_files};
 
 use crate::place::{file_of, size_of};
-use crate::table::DescriptorTable;
 use crate::running_call::RunningCall;
+use crate::table::DescriptorTable;
 use bd_base::{Call, FileId, How, KeyList, Pid};
 use bd_entry::Act;
 use bd_fs::Fs;
@@ -85,9 +85,7 @@ pub fn keys_to_revoke(
             How::Plain => keys_of_file(fs, table, call, process, running),
             How::Direct => KeyList::new(),
         },
-        Call::Truncate { size, .. } => {
-            keys_of_longer(fs, table, call, process, running, *size)
-        }
+        Call::Truncate { size, .. } => { keys_of_longer(fs, table, call, process, running, *size) }
         Call::Close { fd } => table.keys_by(process, *fd),
         Call::Create { .. }
         | Call::Read { .. }

@@ -14,10 +14,10 @@ loop-number-preserved c =
     let test : Descriptor → Bool = λ d. nat_eq d.file c.args.file in
     let process : c.unwrap-process.result ≡ c.loop-number.number =
     same_Some c.unwrap-process.result c.loop-number.number
-    (sym c.unwrap-process.ensures ∙ wrapped c.new.result _ c.loop-number.number c.new.ensures (omega (arith, c.loop-number-test.true, c.requires))) in
-    ( flat_keys-step (λ row. flat_map (λ slot. keys_of_slot test row.0 slot.0 slot.1) (enumerate_from 0 row.1)) [] c.loop-number.keys
-      c.push_keys.new.keys c.args.rows.now c.loop-number.number row [] c.loop-number-test.true c.index-rows-number.is c.loop-number.invariant.0
-      (c.push_keys.ensures.keys
-      ∙ ap (λ (n : ℕ). c.loop-number.keys ++ flat_map (λ slot. keys_of_slot test n slot.0 slot.1) (enumerate_from 0 row)) process)
-    , omega (arith, c.push_keys.ensures.few, c.loop-number.invariant.1)
+    (sym c.unwrap-process.ensures ∙ wrapped c.new.result _ c.loop-number.number c.new.ensures (omega (arith, c.loop-number-test.true, c.requires))) in (
+      flat_keys-step (λ row. flat_map (λ slot. keys_of_slot test row.0 slot.0 slot.1) (enumerate_from 0 row.1)) [] c.loop-number.keys
+          c.push_keys.new.keys c.args.rows.now c.loop-number.number row [] c.loop-number-test.true c.index-rows-number.is c.loop-number.invariant.0
+          (c.push_keys.ensures.keys
+          ∙ ap (λ (n : ℕ). c.loop-number.keys ++ flat_map (λ slot. keys_of_slot test n slot.0 slot.1) (enumerate_from 0 row)) process),
+      omega (arith, c.push_keys.ensures.few, c.loop-number.invariant.1),
     )

@@ -1,0 +1,81 @@
+//! What calls do first where there is no file and nothing is open.
+ghost use Rattle.std.specs.Prelude.{◌≡◌, ◌≤◌, IfOk, None, replicate};
+ghost use Rattle.bd_base.specs.declared.limits.TheConstants.{BLOCKS};
+ghost use Rattle.bd_base.specs.Scripts.{IsCall};
+
+use crate::{Descriptors, KernelCall};
+use bd_base::{Call, InodeList, List, OutOfMemory, Pid, Range, Reason, Vba};
+use bd_entry::Act;
+use bd_fs::Fs;
+use std::alloc::Global;
+use std::process::Abort;
+use std::test::Fail;
+
+/// So many ids without a file.
+fn free_ids(alloc: Global, count: usize) -> Result<InodeList, OutOfMemory>
+    ensures { IfOk result (λ inodes. inodes ≡ replicate count None) }
+{
+    let mut inodes: InodeList = List::new(alloc);
+    for _id in 0..count {
+        inodes.push(None)?;
+    }
+    Ok(inodes)
+}
+
+/// A volume of so many blocks with room for sixteen files, and none there.
+fn no_files(alloc: Global, total: u32) -> Result<Fs, OutOfMemory>
+    requires { total ≤ BLOCKS }
+{
+    Fs::new(alloc, total, free_ids(alloc, 16)?)
+}
+
+/// The next action of a call that has just begun.
+fn first_act(rt: &(impl Abort + AllocGlobal), call: &Call) -> Result<Option<Act>, Fail>
+    requires { IsCall call.now }
+{
+    let alloc = rt.alloc();
+    let fs = no_files(alloc, 20)?;
+    let descriptors = Descriptors::new(alloc, 2)?;
+    let process = Pid::new(1).ok_or("a process")?;
+    let call = KernelCall::begin(alloc, call, process, 7)?;
+    assert!(rt; !call.ended());
+    Ok(call.next(&fs, &descriptors))
+}
+
+#[test]
+fn a_descriptor_that_is_not_open(rt: HostRuntime) -> Result<(), Fail> {
+    let refused = first_act(&rt, &Call::Close { fd: 3 })?;
+    assert!(rt; matches!(refused, Some(Act::Refuse(None, Reason::BadFd))));
+    let refused = first_act(&rt, &Call::Map { fd: 9 })?;
+    assert!(rt; matches!(refused, Some(Act::Refuse(None, Reason::BadFd))));
+    let refused = first_act(&rt, &Call::Size { fd: 0 })?;
+    assert!(rt; matches!(refused, Some(Act::Refuse(None, Reason::BadFd))));
+    Ok(())
+}
+
+#[test]
+fn a_descriptor_that_is_not_open_for_bytes(rt: HostRuntime) -> Result<(), Fail> {
+    let read = Call::Read {
+        fd: 1,
+        off: 0,
+        len: 8,
+    };
+    let refused = first_act(&rt, &read)?;
+    assert!(rt; matches!(refused, Some(Act::Refuse(None, Reason::BadFd))));
+    let truncate = Call::Truncate {
+        fd: 1,
+        size: 20_000_000,
+    };
+    let refused = first_act(&rt, &truncate)?;
+    assert!(rt; matches!(refused, Some(Act::Refuse(None, Reason::BadFd))));
+    Ok(())
+}
+
+#[test]
+fn a_raw_command_is_submitted(rt: HostRuntime) -> Result<(), Fail> {
+    let vba = Vba::new(5).ok_or("an address")?;
+    let range = Range { lo: 0, hi: 8 };
+    let act = first_act(&rt, &Call::RawRead { vba, range })?;
+    assert!(rt; matches!(act, Some(Act::Submit(0))));
+    Ok(())
+}
