@@ -36,6 +36,8 @@ pub mod WriteModes
 pub mod KeptFiles
 pub mod SlotTests
 pub mod PairsInUse
+pub mod NextActs
+pub mod NextCalls
 mod BadLines
 mod Fields
 mod FirstWords

@@ -1,0 +1,97 @@
+-- The next entry of each call is legal.
+use Rattle.std.proofs.Common.{◌≡◌, ◌≢◌, ◌⊎◌, inl, inr, ℕ, Bool, true, false, not, ◌&&◌, ◌||◌, cond, List, [], ◌∷◌, ◌++◌, length, Option, None, Some, refl, sym, ap, ◌∙◌, subst, ⊎_elim}
+use Rattle.std.specs.Prelude.{nat_eq, slice_get, is_some, IsSome}
+use Rattle.std.specs.Option.{option_and_then, option_map, option_map_or, option_or}
+use Rattle.std.specs.List.{list_any}
+use Rattle.std.proofs.lemmas.Bool.{both_ways, false≢true, or_parts}
+use Rattle.std.proofs.lemmas.Option.{none-some, same_Some}
+use Rattle.bd_base.specs.declared.reason.Reason.{Reason}
+use Rattle.bd_base.specs.declared.script.Call.{Call}
+use Rattle.bd_base.specs.declared.script.Call.TheVariants.{Enter, Create, Read, Write, Truncate, Unlink, Size, Map, Close, RawRead, RawWrite}
+use Rattle.bd_base.specs.declared.journal.At.{At}
+use Rattle.bd_base.specs.Inodes.{create_refusal, free_id}
+use Rattle.bd_entry.specs.declared.act.Act.{Act}
+use Rattle.bd_entry.specs.declared.act.Act.TheVariants as acts
+use Rattle.bd_entry.specs.declared.entry.Entry.{Entry}
+use Rattle.bd_entry.specs.declared.entry.Entry.TheVariants as entries
+use Rattle.bd_entry.specs.Actions.{Holders, Running, entry_of_act}
+use Rattle.bd_entry.specs.Calls.{Place, is_end_of, is_made_by}
+use Rattle.bd_entry.specs.NextEntries.{CreatesAreLegal, IsLegalAt, IsReadyPlace, NextIsLegal, SizesReadAreLegal, running}
+use Rattle.bd_entry.specs.Refusals.{descriptor_of, file_of, first_refusal}
+use Rattle.bd_entry.specs.Rules.{EntryRule, FitsStore, IsOpen, NotRefused, RightFile, WithinLimit}
+use Rattle.bd_entry.specs.RulesOfContents.{MayBegin}
+use Rattle.bd_entry.specs.Store.{Descriptor, Store, descriptor_at, size_in}
+use Rattle.bd_entry.proofs.NextActs.{IsOwn, map_from, next_cases, none_outstanding, is_there, refused_first}
+
+-- ---- from an own action
+
+-- the entry of the call's own action is legal
+abbrev OwnIsLegal : Call → Type 0
+OwnIsLegal call =
+    (s : Store) (holders : Holders) (at : At) (before : List Entry) (outstanding : List ℕ) (act : Act) (e : Entry) →
+    let r = running call at before outstanding in
+    IsReadyPlace s r → IsOwn s holders r act → entry_of_act s r.place act ≡ Some e → IsLegalAt s r.place e
+
+-- so is then the next one
+next_from_own : (call : Call) → OwnIsLegal call → NextIsLegal call
+next_from_own call legal s holders at before outstanding act e ready is adds =
+    let r = running call at before outstanding in
+    ⊎_elim
+    (λ refused. refused_first s r.place act e refused adds)
+    (λ own. legal s holders at before outstanding act e ready own adds)
+    (next_cases s holders r act e is adds)
+
+-- ---- creates
+
+-- a new file with the lowest free id
+created-keeps : (s : Store) (p : Place) (file perms : ℕ) (name : List ℕ) → free_id s.files ≡ Some file → MayBegin s p → (rule : EntryRule) →
+    FitsStore s p (entries.Created p.at file name perms) rule
+created-keeps s p file perms name free may RightFile = free
+created-keeps s p file perms name free may NotRefused = may
+created-keeps s p file perms name free may rule = tt
+
+create_is_legal : (name : List ℕ) (perms : ℕ) → OwnIsLegal (Create name perms)
+create_is_legal name perms s holders at before outstanding act e ready own adds =
+    let r = running (Create name perms) at before outstanding in
+    let p = r.place in
+    let none : outstanding ≡ [] = none_outstanding outstanding (λ number some. false≢true (ready.outstanding number some)) in
+    let made = map_from (λ file. entries.Created at file name perms) (free_id s.files) e
+    (ap (entry_of_act s p) (same_Some acts.Created act own.own) ∙ adds) in
+    subst (IsLegalAt s p) made.2
+    (record {
+      of_call = record { kind = refl; fields = (refl, refl) };
+      once = tt;
+      keeps = created-keeps s p made.0 perms name made.1 (own.may_begin none);
+    })
+
+pub creates_are_legal : CreatesAreLegal
+creates_are_legal name perms = next_from_own (Create name perms) (create_is_legal name perms)
+
+-- ---- questions for a size
+
+size_read-keeps : (s : Store) (p : Place) (fd : ℕ) (d : Descriptor) → descriptor_at s p.at.process fd ≡ Some d → MayBegin s p → (rule : EntryRule) →
+    FitsStore s p (entries.SizeRead p.at fd (size_in s d.file)) rule
+size_read-keeps s p fd d is may IsOpen = is_there (descriptor_at s p.at.process fd) d is
+size_read-keeps s p fd d is may WithinLimit = (d, is, refl)
+size_read-keeps s p fd d is may NotRefused = may
+size_read-keeps s p fd d is may rule = tt
+
+size_is_legal : (fd : ℕ) → OwnIsLegal (Size fd)
+size_is_legal fd s holders at before outstanding act e ready own adds =
+    let r = running (Size fd) at before outstanding in
+    let p = r.place in
+    let none : outstanding ≡ [] = none_outstanding outstanding (λ number some. false≢true (ready.outstanding number some)) in
+    let of = map_from (λ file. acts.SizeRead (size_in s file)) (file_of s p) act own.own in
+    let by = map_from (λ (d : Descriptor). d.file) (descriptor_at s at.process fd) of.0 of.1 in
+    let entry : ℕ → Entry = λ file. entries.SizeRead at fd (size_in s file) in
+    let same : entry by.0.file ≡ e =
+    ap entry by.2 ∙ same_Some (entry of.0) e (ap (entry_of_act s p) of.2 ∙ adds) in
+    subst (IsLegalAt s p) same
+    (record {
+      of_call = record { kind = refl; fields = refl };
+      once = tt;
+      keeps = size_read-keeps s p fd by.0 by.1 (own.may_begin none);
+    })
+
+pub sizes_read_are_legal : SizesReadAreLegal
+sizes_read_are_legal fd = next_from_own (Size fd) (size_is_legal fd)
