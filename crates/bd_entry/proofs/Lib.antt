@@ -38,6 +38,8 @@ pub mod SlotTests
 pub mod PairsInUse
 pub mod NextActs
 pub mod NextCalls
+pub mod NextOpens
+pub mod NextCloses
 mod BadLines
 mod Fields
 mod FirstWords

@@ -3,20 +3,21 @@ use Rattle.std.proofs.Common.{◌≡◌, ◌≢◌, ◌⊎◌, inl, inr, ℕ, Bo
 use Rattle.std.specs.Prelude.{nat_eq, slice_get, is_some, IsSome}
 use Rattle.std.specs.Option.{option_and_then, option_map, option_map_or, option_or}
 use Rattle.std.specs.List.{list_any}
-use Rattle.std.proofs.lemmas.Bool.{both_ways, eq-eqb, false≢true, or_left, or_parts}
+use Rattle.std.proofs.lemmas.Bool.{both_ways, eq-eqb, false_from_ne_true, false≢true, or_from, or_left, or_parts}
 use Rattle.std.proofs.lemmas.Option.{none-some, same_Some}
 use Rattle.bd_base.specs.declared.key.Key.{Key}
 use Rattle.bd_base.specs.declared.reason.Reason.{Reason}
 use Rattle.bd_base.specs.declared.script.Call.{Call}
 use Rattle.bd_base.specs.declared.script.Call.TheVariants.{Enter, Create, Read, Write, Truncate, Unlink, Size, Map, Close, RawRead, RawWrite}
+use Rattle.bd_base.specs.declared.journal.At.{At}
 use Rattle.bd_entry.specs.declared.act.Act.{Act}
 use Rattle.bd_entry.specs.declared.act.Act.TheVariants as acts
 use Rattle.bd_entry.specs.declared.entry.Entry.{Entry}
 use Rattle.bd_entry.specs.declared.entry.Entry.TheVariants as entries
 use Rattle.bd_entry.specs.Actions.{Holders, Running, before_beginning, busy, busy_at_first, comes_before_holder, entry_of_act, has_begun, is_none_of, keys_to_revoke, next_act, own_act, revoke, tests_for_holder, wait_for}
-use Rattle.bd_entry.specs.Calls.{Place, is_end_of, is_made_by, is_raw, pieces_of_call}
+use Rattle.bd_entry.specs.Calls.{Place, fd_of, is_end_of, is_made_by, is_raw, pieces_of_call}
 use Rattle.bd_entry.specs.Laws.{AreOfCall}
-use Rattle.bd_entry.specs.NextEntries.{IsLegalAt, IsReadyPlace, stays_allowed}
+use Rattle.bd_entry.specs.NextEntries.{IsLegalAt, IsReadyPlace, NextIsLegal, running, stays_allowed}
 use Rattle.bd_entry.specs.Refusals.{file_of, first_refusal, growth_reason_of, truncation_goal}
 use Rattle.bd_entry.specs.Rules.{EntryRule, FitsStore, NotRefused, RightWay}
 use Rattle.bd_entry.specs.RulesOfContents.{MayBegin}
@@ -173,6 +174,24 @@ none_before call p (e ∷ before) is ends of unfinished =
     (both_ways (is_end_of call e) (or_parts (is_end_of call e) (list_any (is_end_of call) before) unfinished).0
     (ends e (sym (ap (λ (c : Call). is_made_by c e) is) ∙ of.0.kind)))
 
+-- a call that no refusal holds of as it begins, nor later
+pub still_allowed : (before : List Entry) (o : Option Reason) → (before ≡ [] → o ≡ None) → (before ≢ [] → o ≡ None) → o ≡ None
+still_allowed [] o empty some = empty refl
+still_allowed (e ∷ before) o empty some = some (λ none. let no : e ∷ before ≡ [] = none in cc)
+
+-- where no element passes a test, none passes a stricter one
+pub any-stricter : {X : Type 0} (test stricter : X → Bool) (xs : List X) → ((x : X) → stricter x ≡ true → test x ≡ true) →
+    list_any test xs ≡ false → list_any stricter xs ≡ false
+any-stricter test stricter [] passes none = refl
+any-stricter test stricter (x ∷ xs) passes none =
+    let parts = or_parts (test x) (list_any test xs) none in
+    or_from (stricter x) (list_any stricter xs) (false_from_ne_true (stricter x) (λ some. both_ways (test x) parts.0 (passes x some)))
+    (any-stricter test stricter xs passes parts.1)
+
+-- the entry of an action by the call's descriptor
+pub entry_by : (entry : ℕ → Entry) (p : Place) (fd : ℕ) (e : Entry) → fd_of p ≡ Some fd → option_map entry (fd_of p) ≡ Some e → entry fd ≡ e
+entry_by entry p fd e is adds = same_Some (entry fd) e (sym (ap (option_map entry) is) ∙ adds)
+
 -- ---- refusals of whole calls
 
 made_refusal : (p : Place) (call : Call) (reason : Reason) → is_made_by call (entries.Refused p.at None reason) ≡ true
@@ -199,3 +218,21 @@ refused_first s p act e refused adds =
       of_growth = λ some. absurd (some refused.first);
     }
     keeps rule = tt
+
+-- ---- from an own action
+
+-- the entry of the call's own action is legal
+abbrev pub OwnIsLegal : Call → Type 0
+OwnIsLegal call =
+    (s : Store) (holders : Holders) (at : At) (before : List Entry) (outstanding : List ℕ) (act : Act) (e : Entry) →
+    let r = running call at before outstanding in
+    IsReadyPlace s r → IsOwn s holders r act → entry_of_act s r.place act ≡ Some e → IsLegalAt s r.place e
+
+-- so is then the next one
+pub next_from_own : (call : Call) → OwnIsLegal call → NextIsLegal call
+next_from_own call legal s holders at before outstanding act e ready is adds =
+    let r = running call at before outstanding in
+    ⊎_elim
+    (λ refused. refused_first s r.place act e refused adds)
+    (λ own. legal s holders at before outstanding act e ready own adds)
+    (next_cases s holders r act e is adds)

@@ -21,25 +21,7 @@ use Rattle.bd_entry.specs.Refusals.{descriptor_of, file_of, first_refusal}
 use Rattle.bd_entry.specs.Rules.{EntryRule, FitsStore, IsOpen, NotRefused, RightFile, WithinLimit}
 use Rattle.bd_entry.specs.RulesOfContents.{MayBegin}
 use Rattle.bd_entry.specs.Store.{Descriptor, Store, descriptor_at, size_in}
-use Rattle.bd_entry.proofs.NextActs.{IsOwn, map_from, next_cases, none_outstanding, is_there, refused_first}
-
--- ---- from an own action
-
--- the entry of the call's own action is legal
-abbrev OwnIsLegal : Call → Type 0
-OwnIsLegal call =
-    (s : Store) (holders : Holders) (at : At) (before : List Entry) (outstanding : List ℕ) (act : Act) (e : Entry) →
-    let r = running call at before outstanding in
-    IsReadyPlace s r → IsOwn s holders r act → entry_of_act s r.place act ≡ Some e → IsLegalAt s r.place e
-
--- so is then the next one
-next_from_own : (call : Call) → OwnIsLegal call → NextIsLegal call
-next_from_own call legal s holders at before outstanding act e ready is adds =
-    let r = running call at before outstanding in
-    ⊎_elim
-    (λ refused. refused_first s r.place act e refused adds)
-    (λ own. legal s holders at before outstanding act e ready own adds)
-    (next_cases s holders r act e is adds)
+use Rattle.bd_entry.proofs.NextActs.{OwnIsLegal, is_there, map_from, next_from_own, none_outstanding}
 
 -- ---- creates
 

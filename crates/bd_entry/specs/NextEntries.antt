@@ -80,3 +80,19 @@ CreatesAreLegal = (name : List ℕ) (perms : ℕ) → NextIsLegal (Create name p
 -- a question for the size is answered, or refused
 abbrev pub SizesReadAreLegal : Type 0
 SizesReadAreLegal = (fd : ℕ) → NextIsLegal (Size fd)
+
+-- a map attaches a right or tells how many there are, or is refused
+abbrev pub MapsAreLegal : Type 0
+MapsAreLegal = (fd : ℕ) → NextIsLegal (Map fd)
+
+-- a direct open opens, attaches a right or tells how many there are, or is refused
+abbrev pub DirectOpensAreLegal : Type 0
+DirectOpensAreLegal = (name : List ℕ) (mode : Mode) → NextIsLegal (Enter name mode hows.Direct)
+
+-- a plain open opens once no right on its file is attached, or is refused
+abbrev pub PlainOpensAreLegal : Type 0
+PlainOpensAreLegal = (name : List ℕ) (mode : Mode) → NextIsLegal (Enter name mode hows.Plain)
+
+-- a close closes once its descriptor has no right, or is refused
+abbrev pub ClosesAreLegal : Type 0
+ClosesAreLegal = (fd : ℕ) → NextIsLegal (Close fd)

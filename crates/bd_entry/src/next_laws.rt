@@ -1,5 +1,5 @@
 //! That what a call does next is legal. Each law is the contract of a function that does nothing.
-ghost use Rattle.bd_entry.specs.NextEntries.{CreatesAreLegal, SizesReadAreLegal};
+ghost use Rattle.bd_entry.specs.NextEntries.{ClosesAreLegal, CreatesAreLegal, DirectOpensAreLegal, MapsAreLegal, PlainOpensAreLegal, SizesReadAreLegal};
 
 /// The next entry of a create is legal.
 pub fn creates_are_legal()
@@ -9,4 +9,24 @@ pub fn creates_are_legal()
 /// The next entry of a question for a size is legal.
 pub fn sizes_read_are_legal()
     ensures { SizesReadAreLegal }
+{}
+
+/// The next entry of a map is legal.
+pub fn maps_are_legal()
+    ensures { MapsAreLegal }
+{}
+
+/// The next entry of a direct open is legal.
+pub fn direct_opens_are_legal()
+    ensures { DirectOpensAreLegal }
+{}
+
+/// The next entry of a plain open is legal.
+pub fn plain_opens_are_legal()
+    ensures { PlainOpensAreLegal }
+{}
+
+/// The next entry of a close is legal.
+pub fn closes_are_legal()
+    ensures { ClosesAreLegal }
 {}
