@@ -7,6 +7,7 @@ use Rattle.std.proofs.lemmas.Bool.{both_ways, eq-eqb, false_from_ne_true, false�
 use Rattle.std.proofs.lemmas.Option.{none-some, same_Some}
 use Rattle.bd_base.specs.declared.key.Key.{Key}
 use Rattle.bd_base.specs.declared.reason.Reason.{Reason}
+use Rattle.bd_base.specs.declared.reason.Reason.TheVariants as reasons
 use Rattle.bd_base.specs.declared.script.Call.{Call}
 use Rattle.bd_base.specs.declared.script.Call.TheVariants.{Enter, Create, Read, Write, Truncate, Unlink, Size, Map, Close, RawRead, RawWrite}
 use Rattle.bd_base.specs.declared.journal.At.{At}
@@ -18,10 +19,10 @@ use Rattle.bd_entry.specs.Actions.{Holders, Running, before_beginning, busy, bus
 use Rattle.bd_entry.specs.Calls.{Place, fd_of, is_end_of, is_made_by, is_raw, pieces_of_call}
 use Rattle.bd_entry.specs.Laws.{AreOfCall}
 use Rattle.bd_entry.specs.NextEntries.{IsLegalAt, IsReadyPlace, NextIsLegal, running, stays_allowed}
-use Rattle.bd_entry.specs.Refusals.{file_of, first_refusal, growth_reason_of, truncation_goal}
+use Rattle.bd_entry.specs.Refusals.{descriptor_refusal, file_of, first_refusal, growth_reason_of, truncation_goal}
 use Rattle.bd_entry.specs.Rules.{EntryRule, FitsStore, NotRefused, RightWay}
 use Rattle.bd_entry.specs.RulesOfContents.{MayBegin}
-use Rattle.bd_entry.specs.Store.{Store}
+use Rattle.bd_entry.specs.Store.{Descriptor, Store, descriptor_at}
 
 -- ---- what an option came from
 
@@ -187,6 +188,15 @@ any-stricter test stricter (x ∷ xs) passes none =
     let parts = or_parts (test x) (list_any test xs) none in
     or_from (stricter x) (list_any stricter xs) (false_from_ne_true (stricter x) (λ some. both_ways (test x) parts.0 (passes x some)))
     (any-stricter test stricter xs passes parts.1)
+
+-- the descriptor of a call that is not refused is open, and it is not refused for a further reason
+pub open_descriptor : (s : Store) (process fd : ℕ) (further : Descriptor → Option Reason) → descriptor_refusal s process fd further ≡ None →
+    (d : Descriptor) × (descriptor_at s process fd ≡ Some d) × (further d ≡ None)
+open_descriptor s process fd further none =
+    ⊎_elim
+    (λ found. found)
+    (λ closed. absurd (none-some reasons.BadFd (sym closed.1)))
+    (map_or_from further (descriptor_at s process fd) (Some reasons.BadFd) None none)
 
 -- the entry of an action by the call's descriptor
 pub entry_by : (entry : ℕ → Entry) (p : Place) (fd : ℕ) (e : Entry) → fd_of p ≡ Some fd → option_map entry (fd_of p) ≡ Some e → entry fd ≡ e
