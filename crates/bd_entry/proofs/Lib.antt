@@ -40,6 +40,7 @@ pub mod NextActs
 pub mod NextCalls
 pub mod NextOpens
 pub mod NextCloses
+pub mod NextFiles
 mod BadLines
 mod Fields
 mod FirstWords

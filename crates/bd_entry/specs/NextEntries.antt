@@ -96,3 +96,11 @@ PlainOpensAreLegal = (name : List ℕ) (mode : Mode) → NextIsLegal (Enter name
 -- a close closes once its descriptor has no right, or is refused
 abbrev pub ClosesAreLegal : Type 0
 ClosesAreLegal = (fd : ℕ) → NextIsLegal (Close fd)
+
+-- a removal releases a block of a file that nobody has open or takes it away, or is refused
+abbrev pub RemovalsAreLegal : Type 0
+RemovalsAreLegal = (name : List ℕ) → NextIsLegal (Unlink name)
+
+-- a truncation releases a block once no right on its file is attached, grows its file or ends, or is refused
+abbrev pub TruncationsAreLegal : Type 0
+TruncationsAreLegal = (fd size : ℕ) → NextIsLegal (Truncate fd size)

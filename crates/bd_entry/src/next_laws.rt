@@ -1,5 +1,5 @@
 //! That what a call does next is legal. Each law is the contract of a function that does nothing.
-ghost use Rattle.bd_entry.specs.NextEntries.{ClosesAreLegal, CreatesAreLegal, DirectOpensAreLegal, MapsAreLegal, PlainOpensAreLegal, SizesReadAreLegal};
+ghost use Rattle.bd_entry.specs.NextEntries.{ClosesAreLegal, CreatesAreLegal, DirectOpensAreLegal, MapsAreLegal, PlainOpensAreLegal, RemovalsAreLegal, SizesReadAreLegal, TruncationsAreLegal};
 
 /// The next entry of a create is legal.
 pub fn creates_are_legal()
@@ -29,4 +29,14 @@ pub fn plain_opens_are_legal()
 /// The next entry of a close is legal.
 pub fn closes_are_legal()
     ensures { ClosesAreLegal }
+{}
+
+/// The next entry of a removal is legal.
+pub fn removals_are_legal()
+    ensures { RemovalsAreLegal }
+{}
+
+/// The next entry of a truncation is legal.
+pub fn truncations_are_legal()
+    ensures { TruncationsAreLegal }
 {}
