@@ -3,9 +3,10 @@ use Rattle.std.proofs.Common.{◌≡◌, ◌≢◌, ◌⊎◌, inl, inr, ℕ, �
 use Rattle.std.specs.Prelude.{nat_eq, nat_le, nat_lt, slice_get, is_some, IsSome}
 use Rattle.std.specs.Option.{option_and_then, option_map, option_map_or, option_or}
 use Rattle.std.specs.List.{list_any}
-use Rattle.std.proofs.lemmas.Bool.{and_cases, and_parts, both_ways, cases_lt, false≢true, le-ltb, lt-ltb, true_from_ne_false}
+use Rattle.std.proofs.lemmas.Bool.{and_cases, and_parts, both_ways, cases_lt, false≢true, le-ltb, lt-ltb, ltb-true, true_from_ne_false}
 use Rattle.std.proofs.lemmas.Option.{none-some, same_Some, slice_get_within}
 use Rattle.bd_base.specs.declared.limits.TheConstants.{BLOCK_SIZE, EXTENTS, FILE_SIZE}
+use Rattle.bd_base.specs.declared.key.Key.{Key}
 use Rattle.bd_base.specs.declared.reason.Reason.{Reason}
 use Rattle.bd_base.specs.declared.reason.Reason.TheVariants as reasons
 use Rattle.bd_base.specs.declared.script.Call.{Call}
@@ -24,7 +25,7 @@ use Rattle.bd_entry.specs.Actions.{entry_of_act, is_none_of, is_to_shrink, keys_
 use Rattle.bd_entry.specs.Calls.{Place, is_made_by, named_fd}
 use Rattle.bd_entry.specs.NextEntries.{IsLegalAt, RemovalsAreLegal, TruncationsAreLegal, running}
 use Rattle.bd_entry.specs.Refusals.{file_of, first_refusal, goal_of, growth_reason, growth_reason_of, is_read_only, next_size, reason_if, truncate_refusal, unlink_denial_of}
-use Rattle.bd_entry.specs.Rules.{EntryRule, FitsStore, IsOpen, NotRefused, RightBlock, RightFile, Rights, WithinLimit}
+use Rattle.bd_entry.specs.Rules.{EntryRule, FitsStore, IsOpen, NotRefused, RightBlock, RightFile, RightWay, Rights, WithinLimit}
 use Rattle.bd_entry.specs.RulesOfContents.{IsOfGrowth, MayBegin, MayGrowToGoal, NeedsNoLastBlock}
 use Rattle.bd_entry.specs.RulesOfRights.{HasNoRights, NamedIsOpen}
 use Rattle.bd_entry.specs.Store.{Descriptor, Holder, Store, Valid, blocks_in, descriptor_at, file_in, first_open, has_open, has_rights, is_attached_of, is_open_of, size_in}
@@ -227,10 +228,13 @@ goal-within s file goal to f none there next =
     let allowed : growth_refusal s.total s.files f goal ≡ None =
     sym (ap (λ (b : Bool). cond b (growth_refusal s.total s.files f goal) None) below) ∙ sym (ap (option_and_then why) there) ∙ none in
     ⊎_elim
-    (λ above.
-    absurd (none-some reasons.TooBig (sym allowed ∙ ap (λ (b : Bool). cond b (Some reasons.TooBig) _) (lt-ltb FILE_SIZE goal above))))
+    (λ big. absurd (none-some reasons.TooBig (sym big.1)))
+    (λ small.
+    ⊎_elim
+    (λ above. absurd (both_ways (nat_lt FILE_SIZE goal) small.0 (lt-ltb FILE_SIZE goal above)))
     (λ within. within)
-    (cases_lt FILE_SIZE goal)
+    (cases_lt FILE_SIZE goal))
+    (cond_from (nat_lt FILE_SIZE goal) (Some reasons.TooBig) _ None allowed)
 
 -- the call lets its file grow towards a goal
 pub record Extends (s : Store) (p : Place) (file goal to : ℕ) : Type 0 where
@@ -268,16 +272,6 @@ extension_is_legal s p file goal to e extends adds =
     })
 
 -- ---- truncations
-
--- the facts of a truncation that goes on
-record Truncates (s : Store) (p : Place) (fd size : ℕ) : Type 0 where
-  d : Descriptor
-  is_open : descriptor_at s p.at.process fd ≡ Some d
-  call_is : p.call ≡ Truncate fd size
-  not_refused : first_refusal s p.at.process p.call ≡ None
-  small : nat_lt FILE_SIZE size ≡ false
-  lowers : nat_lt size (size_in s d.file) ≡ true → HasNoRights s d.file
-  may_begin : MayBegin s p
 
 -- no blocks are left that the size does not need
 enough_blocks : (size now blocks : ℕ) → blocks ≡ blocks_for now → nat_lt now size ≡ false → (nat_lt size now && nat_lt (blocks_for size) blocks) ≡ false →
@@ -323,3 +317,93 @@ sized-keeps s at before fd size d is enough lowers may Rights =
 sized-keeps s at before fd size d is enough lowers may WithinLimit = (d, is, (refl, enough))
 sized-keeps s at before fd size d is enough lowers may NotRefused = may
 sized-keeps s at before fd size d is enough lowers may rule = tt
+
+-- a truncation whose file cannot grow further is refused for want of room
+truncation_refused-keeps : (s : Store) (at : At) (before : List Entry) (fd size : ℕ) (reason : Reason) →
+    let p : Place = record { call = Truncate fd size; at = at; before = before } in
+    first_refusal s at.process (Truncate fd size) ≡ None → growth_reason_of s p size ≡ Some reason → IsOfGrowth reason → (rule : EntryRule) →
+    FitsStore s p (entries.Refused at None reason) rule
+truncation_refused-keeps s at before fd size reason allowed why growth RightWay = refl
+truncation_refused-keeps s at before fd size reason allowed why growth NotRefused =
+    let p : Place = record { call = Truncate fd size; at = at; before = before } in
+    record { first = ap (λ (o : Option Reason). option_or o (growth_reason_of s p size)) allowed ∙ why; of_growth = λ some. growth }
+truncation_refused-keeps s at before fd size reason allowed why growth rule = tt
+
+truncation_is_legal : (fd size : ℕ) → OwnIsLegal (Truncate fd size)
+truncation_is_legal fd size s holders at before outstanding act e ready own adds =
+    let call = Truncate fd size in
+    let p : Place = record { call = call; at = at; before = before } in
+    let none : outstanding ≡ [] = none_outstanding outstanding (λ number some. false≢true (ready.outstanding number some)) in
+    let may : MayBegin s p = own.may_begin none in
+    let allowed : first_refusal s at.process call ≡ None =
+    still_allowed before (first_refusal s at.process call) may (λ some. ready.allowed some refl) in
+    let found = map_from (truncate_to s p size) (file_of s p) act own.own in
+    let by = map_from (λ (d : Descriptor). d.file) (descriptor_at s at.process fd) found.0 found.1 in
+    let d : Descriptor = by.0 in
+    let is_open = is_there (descriptor_at s at.process fd) d by.1 in
+    let of : file_of s p ≡ Some d.file = found.1 ∙ ap (λ (file : ℕ). Some file) (sym by.2) in
+    let act_is : truncate_to s p size d.file ≡ act = ap (truncate_to s p size) by.2 ∙ found.2 in
+    let named = open_descriptor s at.process fd (truncate_refusal size) allowed in
+    let small : nat_lt FILE_SIZE size ≡ false =
+    reason_if-none (nat_lt FILE_SIZE size) reasons.TooBig
+    (or_none (reason_if (is_read_only named.0.mode) reasons.ReadOnly) (reason_if (nat_lt FILE_SIZE size) reasons.TooBig) named.2).1 in
+    let keys : ℕ → List Key = λ file. cond (nat_lt size (size_in s file)) (keys_on s file) [] in
+    let lowers : nat_lt size (size_in s d.file) ≡ true → HasNoRights s d.file =
+    λ less.
+    keys_on-none s d.file
+    (sym (ap (λ (b : Bool). cond b (keys_on s d.file) []) less) ∙ sym (ap (λ (o : Option ℕ). option_map_or keys o []) of) ∙ own.no_keys) in
+    let grow : ℕ → Act = λ to. option_map_or (acts.Refuse None) (growth_reason_of s p size) (acts.Extend d.file to) in
+    ⊎_elim
+    (λ shrinks.
+    let parts = and_parts (nat_lt size (size_in s d.file)) (nat_lt (blocks_for size) (length (blocks_in s d.file))) shrinks.0 in
+    release_is_legal s p d.file e
+    (record {
+      of = of;
+      kind = λ index block. refl;
+      opened = is_open;
+      no_rights = lowers parts.0;
+      unneeded = λ f there.
+          let count : length (blocks_in s d.file) ≡ length f.blocks = ap (λ (slot : Option Inode). length (blocks_of_slot slot)) there in
+          let more : blocks_for size < length (blocks_in s d.file) = ltb-true (blocks_for size) (length (blocks_in s d.file)) parts.1 in
+          subst (λ (n : ℕ). blocks_for size < n) count more;
+      may_begin = may;
+    })
+    (ap (entry_of_act s p) shrinks.1 ∙ adds))
+    (λ stays.
+    ⊎_elim
+    (λ grows.
+    ⊎_elim
+    (λ refused.
+    let entry : Entry = entries.Refused at None refused.0 in
+    subst (IsLegalAt s p) (same_Some entry e (ap (entry_of_act s p) refused.2 ∙ adds))
+    (record {
+      of_call = record { kind = refl; fields = tt };
+      once = tt;
+      keeps = truncation_refused-keeps s at before fd size refused.0 allowed refused.1 (growth_reason-of s p size refused.0 refused.1 small);
+    }))
+    (λ room.
+    extension_is_legal s p d.file size grows.0 e
+    (record {
+      of = of;
+      kind = λ block. refl;
+      opened = is_open;
+      goal_is = refl;
+      room = room.0;
+      next = grows.1;
+      may_begin = may;
+    })
+    (ap (entry_of_act s p) room.1 ∙ adds))
+    (map_or_from (acts.Refuse None) (growth_reason_of s p size) (acts.Extend d.file grows.0) act grows.2))
+    (λ reached.
+    let entry : Entry = entries.Sized at fd size in
+    subst (IsLegalAt s p) (same_Some entry e (ap (entry_of_act s p) reached.1 ∙ adds))
+    (record {
+      of_call = record { kind = refl; fields = refl };
+      once = tt;
+      keeps = sized-keeps s at before fd size d by.1 (sized_blocks s p fd size d ready.valid by.1 stays.0 reached.0) lowers may;
+    }))
+    (map_or_from grow (next_size (size_in s d.file) size) (acts.Sized size) act stays.1))
+    (cond_from (is_to_shrink s d.file size) (acts.Release d.file) _ act act_is)
+
+pub truncations_are_legal : TruncationsAreLegal
+truncations_are_legal fd size = next_from_own (Truncate fd size) (truncation_is_legal fd size)
