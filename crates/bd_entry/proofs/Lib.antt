@@ -41,6 +41,8 @@ pub mod NextCalls
 pub mod NextOpens
 pub mod NextCloses
 pub mod NextFiles
+pub mod NextPieces
+pub mod NextEntries
 mod BadLines
 mod Fields
 mod FirstWords

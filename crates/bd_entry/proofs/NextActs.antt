@@ -57,7 +57,7 @@ is_there o x is = ap is_some is
 -- ---- as a call begins
 
 -- a process that waits adds no entry
-busy_adds_none : (s : Store) (holders : Holders) (p : Place) (act : Act) → busy s holders p ≡ Some act → entry_of_act s p act ≡ None
+pub busy_adds_none : (s : Store) (holders : Holders) (p : Place) (act : Act) → busy s holders p ≡ Some act → entry_of_act s p act ≡ None
 busy_adds_none s holders p act is =
     let found = then_from (λ file. wait_for p.at.process file (holders file)) (file_of s p) act is in
     waits found.0 (holders found.0) found.2

@@ -291,7 +291,7 @@ enough_blocks size now blocks enough reached stays =
     (cases_lt (blocks_for size) blocks))
     (and_cases (nat_lt size now) (nat_lt (blocks_for size) blocks) stays)
 
-next_size-none : (size goal : ℕ) → next_size size goal ≡ None → nat_lt size goal ≡ false
+pub next_size-none : (size goal : ℕ) → next_size size goal ≡ None → nat_lt size goal ≡ false
 next_size-none size goal none =
     ⊎_elim (λ below. absurd (none-some _ (sym below.1))) (λ there. there.0) (cond_from (nat_lt size goal) (Some _) None None none)
 

@@ -31,7 +31,7 @@ use Rattle.bd_entry.proofs.NextActs.{OwnIsLegal, entry_by, is_there, map_from, m
 
 -- ---- rights that are attached
 
-not-true : (b : Bool) → not b ≡ true → b ≡ false
+pub not-true : (b : Bool) → not b ≡ true → b ≡ false
 not-true true is = absurd (false≢true is)
 not-true false is = refl
 

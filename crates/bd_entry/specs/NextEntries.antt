@@ -8,6 +8,7 @@ use Rattle.bd_base.specs.declared.script.How.TheVariants as hows
 use Rattle.bd_base.specs.declared.script.Mode.{Mode}
 use Rattle.bd_base.specs.declared.reason.Reason.{Reason}
 use Rattle.bd_base.specs.declared.journal.At.{At}
+use Rattle.bd_base.specs.Bounds.{Bounds}
 use Rattle.bd_base.specs.Pieces.{Piece}
 use Rattle.bd_base.specs.Scripts.{IsCall}
 use Rattle.bd_entry.specs.declared.act.Act.{Act}
@@ -104,3 +105,22 @@ RemovalsAreLegal = (name : List ℕ) → NextIsLegal (Unlink name)
 -- a truncation releases a block once no right on its file is attached, grows its file or ends, or is refused
 abbrev pub TruncationsAreLegal : Type 0
 TruncationsAreLegal = (fd size : ℕ) → NextIsLegal (Truncate fd size)
+
+-- a read has the kernel's access of a piece that is not for the device, or is refused
+abbrev pub ReadsAreLegal : Type 0
+ReadsAreLegal = (fd off len : ℕ) → NextIsLegal (Read fd off len)
+
+-- a write has the kernel's access of such a piece, after its file has grown to the piece's end, or a refusal of it, or is
+-- refused
+abbrev pub WritesAreLegal : Type 0
+WritesAreLegal = (fd off : ℕ) (bytes : List ℕ) → NextIsLegal (Write fd off bytes)
+
+-- a raw command adds no entry by itself: a submission and a completion are told by the engine
+abbrev pub RawCommandsAreLegal : Type 0
+RawCommandsAreLegal =
+    ((address : ℕ) (range : Bounds) → NextIsLegal (RawRead address range))
+    × ((address lo : ℕ) (bytes : List ℕ) → NextIsLegal (RawWrite address lo bytes))
+
+-- whatever any call does next, the entry that it adds is legal
+abbrev pub NextEntriesAreLegal : Type 0
+NextEntriesAreLegal = (call : Call) → NextIsLegal call

@@ -1,5 +1,5 @@
 //! That what a call does next is legal. Each law is the contract of a function that does nothing.
-ghost use Rattle.bd_entry.specs.NextEntries.{ClosesAreLegal, CreatesAreLegal, DirectOpensAreLegal, MapsAreLegal, PlainOpensAreLegal, RemovalsAreLegal, SizesReadAreLegal, TruncationsAreLegal};
+ghost use Rattle.bd_entry.specs.NextEntries.{ClosesAreLegal, CreatesAreLegal, DirectOpensAreLegal, MapsAreLegal, NextEntriesAreLegal, PlainOpensAreLegal, ReadsAreLegal, RemovalsAreLegal, SizesReadAreLegal, TruncationsAreLegal, WritesAreLegal};
 
 /// The next entry of a create is legal.
 pub fn creates_are_legal()
@@ -39,4 +39,19 @@ pub fn removals_are_legal()
 /// The next entry of a truncation is legal.
 pub fn truncations_are_legal()
     ensures { TruncationsAreLegal }
+{}
+
+/// The next entry of a read is legal.
+pub fn reads_are_legal()
+    ensures { ReadsAreLegal }
+{}
+
+/// The next entry of a write is legal.
+pub fn writes_are_legal()
+    ensures { WritesAreLegal }
+{}
+
+/// The next entry of every call is legal.
+pub fn next_entries_are_legal()
+    ensures { NextEntriesAreLegal }
 {}
