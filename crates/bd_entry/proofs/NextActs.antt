@@ -218,7 +218,7 @@ refused_first s p act e refused adds =
     let entry = entries.Refused p.at None refused.reason in
     let same : entry ≡ e = same_Some entry e (sym (ap (entry_of_act s p) refused.act_is) ∙ adds) in
     subst (IsLegalAt s p) same
-    (record { of_call = record { kind = made_refusal p p.call refused.reason; fields = tt }; once = tt; keeps = keeps })
+    (record { of_call = record { kind = made_refusal p p.call refused.reason; fields = tt }; of_place = refl; once = tt; keeps = keeps })
   where
     keeps : (rule : EntryRule) → FitsStore s p (entries.Refused p.at None refused.reason) rule
     keeps RightWay = not_raw s p.at.process p.call refused.reason refused.is_refused

@@ -42,6 +42,7 @@ create_is_legal name perms s holders at before outstanding act e ready own adds 
     subst (IsLegalAt s p) made.2
     (record {
       of_call = record { kind = refl; fields = (refl, refl) };
+      of_place = refl;
       once = tt;
       keeps = created-keeps s p made.0 perms name made.1 (own.may_begin none);
     })
@@ -71,6 +72,7 @@ size_is_legal fd s holders at before outstanding act e ready own adds =
     subst (IsLegalAt s p) same
     (record {
       of_call = record { kind = refl; fields = refl };
+      of_place = refl;
       once = tt;
       keeps = size_read-keeps s p fd by.0 by.1 (own.may_begin none);
     })

@@ -165,6 +165,7 @@ close_is_legal fd s holders at before outstanding act e ready own adds =
     subst (IsLegalAt s p) (same_Some entry e (ap (entry_of_act s p) (same_Some acts.Closed act own.own) ∙ adds))
     (record {
       of_call = record { kind = refl; fields = refl };
+      of_place = refl;
       once = tt;
       keeps = closed-keeps s p fd d.0 d.1 (keys_by-none s at.process fd d.0 own.no_keys d.1) may;
     })

@@ -95,6 +95,7 @@ release_is_legal s p file e releases adds =
     subst (IsLegalAt s p) found.2
     (record {
       of_call = record { kind = releases.kind last found.0; fields = tt };
+      of_place = refl;
       once = tt;
       keeps = released-keeps s p file found.0 releases found.1;
     })
@@ -158,6 +159,7 @@ removal_is_legal name s holders at before outstanding act e ready own adds =
     (same_Some entry e (sym (ap (option_map (entries.Unlinked at)) found.1) ∙ ap (entry_of_act s p) unlinks.1 ∙ adds))
     (record {
       of_call = record { kind = refl; fields = tt };
+      of_place = refl;
       once = tt;
       keeps = unlinked-keeps s p file found.1 unlinks.0 closed may;
     }))
@@ -267,6 +269,7 @@ extension_is_legal s p file goal to e extends adds =
     subst (IsLegalAt s p) found.2
     (record {
       of_call = record { kind = extends.kind (growth_block s.total s.files found.0); fields = tt };
+      of_place = refl;
       once = tt;
       keeps = extended-keeps s p file goal to found.0 extends found.1;
     })
@@ -378,6 +381,7 @@ truncation_is_legal fd size s holders at before outstanding act e ready own adds
     subst (IsLegalAt s p) (same_Some entry e (ap (entry_of_act s p) refused.2 ∙ adds))
     (record {
       of_call = record { kind = refl; fields = tt };
+      of_place = refl;
       once = tt;
       keeps = truncation_refused-keeps s at before fd size refused.0 allowed refused.1 (growth_reason-of s p size refused.0 refused.1 small);
     }))
@@ -399,6 +403,7 @@ truncation_is_legal fd size s holders at before outstanding act e ready own adds
     subst (IsLegalAt s p) (same_Some entry e (ap (entry_of_act s p) reached.1 ∙ adds))
     (record {
       of_call = record { kind = refl; fields = refl };
+      of_place = refl;
       once = tt;
       keeps = sized-keeps s at before fd size d by.1 (sized_blocks s p fd size d ready.valid by.1 stays.0 reached.0) lowers may;
     }))

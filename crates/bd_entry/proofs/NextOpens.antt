@@ -82,6 +82,7 @@ attach_is_legal s p fd act e attaches may own adds =
     subst (IsLegalAt s p) (entry_by entry p fd e attaches.by (ap (entry_of_act s p) next.2 ∙ adds))
     (record {
       of_call = record { kind = attaches.attached next.0; fields = attaches.by };
+      of_place = refl;
       once = tt;
       keeps = attached-keeps s p fd next.0 d found.1 (next_part-is s d next.0 next.1) may;
     }))
@@ -90,6 +91,7 @@ attach_is_legal s p fd act e attaches may own adds =
     subst (IsLegalAt s p) (entry_by entry p fd e attaches.by (ap (entry_of_act s p) none.1 ∙ adds))
     (record {
       of_call = record { kind = attaches.mapped (length d.attached); fields = attaches.by };
+      of_place = refl;
       once = tt;
       keeps = mapped-keeps s p fd d found.1 none.0 may;
     }))
@@ -134,6 +136,7 @@ open_is_legal s at before name mode how act e opens own adds =
     subst (IsLegalAt s p) (same_Some entry e (ap (entry_of_act s p) low.2 ∙ adds))
     (record {
       of_call = record { kind = opens.kind of.0 low.0; fields = (refl, refl) };
+      of_place = refl;
       once = opens.once;
       keeps = keeps of.0 low.0 of.1 low.1;
     })

@@ -56,7 +56,7 @@ record Moves (s : Store) (p : Place) (outstanding : List ℕ) (act : Act) : Type
   act_is : move_piece s p number piece d ≡ act
 
 -- a submission or a poll adds no entry
-submitted_adds_none : (s : Store) (r : Running) (act : Act) → submit_or_poll s r ≡ Some act → entry_of_act s r.place act ≡ None
+pub submitted_adds_none : (s : Store) (r : Running) (act : Act) → submit_or_poll s r ≡ Some act → entry_of_act s r.place act ≡ None
 submitted_adds_none s r act is =
     let p = r.place in
     ⊎_elim
@@ -212,6 +212,7 @@ access_is_legal s p number fd piece d e accesses adds =
         kind = accesses.kind way;
         fields = (accesses.named, record { piece = accesses.piece_is; direction = refl });
       };
+      of_place = refl;
       once = accesses.unanswered;
       keeps = access-keeps s p number fd piece d accesses is_open;
     })
@@ -320,6 +321,7 @@ write_is_legal fd off bytes s holders at before outstanding act e ready own adds
     subst (IsLegalAt s p) (same_Some entry e (ap (entry_of_act s p) refused.2 ∙ adds))
     (record {
       of_call = record { kind = refl; fields = is_there (piece_of_call call number) piece moves.piece_is };
+      of_place = refl;
       once = moves.unanswered;
       keeps = refused_piece-keeps s p number piece d refused.0 moves.piece_is moves.of moves.for_kernel allowed refused.1;
     }))

@@ -15,12 +15,14 @@ use Rattle.bd_entry.specs.declared.act.Act.{Act}
 use Rattle.bd_entry.specs.declared.act.Act.TheVariants as acts
 use Rattle.bd_entry.specs.declared.entry.Entry.{Entry}
 use Rattle.bd_entry.specs.Actions.{Holders, Running, entry_of_act, next_act}
-use Rattle.bd_entry.specs.Calls.{Place, has_missed, is_ended_by, piece_of_call}
-use Rattle.bd_entry.specs.Laws.{AreOfCall}
+use Rattle.bd_entry.specs.Calls.{Place, at_of, has_missed, is_ended_by, piece_of_call}
+use Rattle.bd_entry.specs.Effects.{effect_of}
+use Rattle.bd_entry.specs.History.{Step}
+use Rattle.bd_entry.specs.Laws.{AreOfCall, IsNextEntry}
 use Rattle.bd_entry.specs.Refusals.{descriptor_of, first_refusal, goes_direct}
 use Rattle.bd_entry.specs.Rules.{EntryRule, FitsStore}
 use Rattle.bd_entry.specs.RulesOfCalls.{IsFirstOfKind, IsOfCall}
-use Rattle.bd_entry.specs.Store.{Descriptor, Store, Valid}
+use Rattle.bd_entry.specs.Store.{Descriptor, Store, Valid, work_of}
 
 -- ---- a call that goes on
 
@@ -54,8 +56,9 @@ pub record IsReadyPlace (s : Store) (r : Running) : Type 0 where
       first_refusal s r.place.at.process r.place.call ≡ None
   pub missed : MissedGoDirect s r.place
 
--- the entry is legal at its place: it is of its call, done once, and keeps each rule that looks at the store
+-- the entry is legal at its place: it is of that call, done once, and keeps each rule that looks at the store
 pub record IsLegalAt (s : Store) (p : Place) (e : Entry) : Type 0 where
+  pub of_place : at_of e ≡ p.at
   pub of_call : IsOfCall p e
   pub once : IsFirstOfKind p.before e
   pub keeps : (rule : EntryRule) → FitsStore s p e rule
@@ -115,12 +118,19 @@ ReadsAreLegal = (fd off len : ℕ) → NextIsLegal (Read fd off len)
 abbrev pub WritesAreLegal : Type 0
 WritesAreLegal = (fd off : ℕ) (bytes : List ℕ) → NextIsLegal (Write fd off bytes)
 
--- a raw command adds no entry by itself: a submission and a completion are told by the engine
-abbrev pub RawCommandsAreLegal : Type 0
-RawCommandsAreLegal =
-    ((address : ℕ) (range : Bounds) → NextIsLegal (RawRead address range))
-    × ((address lo : ℕ) (bytes : List ℕ) → NextIsLegal (RawWrite address lo bytes))
-
 -- whatever any call does next, the entry that it adds is legal
 abbrev pub NextEntriesAreLegal : Type 0
 NextEntriesAreLegal = (call : Call) → NextIsLegal call
+
+-- the entry is the next one of the call, and the step that it takes leads to a valid store
+pub record LeadsOn (s : Store) (p : Place) (e : Entry) : Type 0 where
+  pub next : IsNextEntry s p.call e
+  pub step : Step s p e (effect_of s p e)
+  pub valid : Valid (effect_of s p e)
+
+-- so is that of the next action of a call whose entries so far the store keeps
+abbrev pub NextEntriesLeadOn : Type 0
+NextEntriesLeadOn =
+    (s : Store) (holders : Holders) (call : Call) (at : At) (outstanding : List ℕ) (act : Act) (e : Entry) →
+    let r = running call at (work_of s at.process) outstanding in
+    IsReadyPlace s r → next_act s holders r ≡ Some act → entry_of_act s r.place act ≡ Some e → LeadsOn s r.place e

@@ -1,5 +1,5 @@
 //! That what a call does next is legal. Each law is the contract of a function that does nothing.
-ghost use Rattle.bd_entry.specs.NextEntries.{ClosesAreLegal, CreatesAreLegal, DirectOpensAreLegal, MapsAreLegal, NextEntriesAreLegal, PlainOpensAreLegal, ReadsAreLegal, RemovalsAreLegal, SizesReadAreLegal, TruncationsAreLegal, WritesAreLegal};
+ghost use Rattle.bd_entry.specs.NextEntries.{ClosesAreLegal, CreatesAreLegal, DirectOpensAreLegal, MapsAreLegal, NextEntriesAreLegal, NextEntriesLeadOn, PlainOpensAreLegal, ReadsAreLegal, RemovalsAreLegal, SizesReadAreLegal, TruncationsAreLegal, WritesAreLegal};
 
 /// The next entry of a create is legal.
 pub fn creates_are_legal()
@@ -54,4 +54,9 @@ pub fn writes_are_legal()
 /// The next entry of every call is legal.
 pub fn next_entries_are_legal()
     ensures { NextEntriesAreLegal }
+{}
+
+/// The next entry of a call is the next one of its process, and its step leads to a valid store.
+pub fn next_entries_lead_on()
+    ensures { NextEntriesLeadOn }
 {}
