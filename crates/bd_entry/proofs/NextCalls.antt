@@ -16,7 +16,7 @@ use Rattle.bd_entry.specs.declared.entry.Entry.{Entry}
 use Rattle.bd_entry.specs.declared.entry.Entry.TheVariants as entries
 use Rattle.bd_entry.specs.Actions.{Holders, Running, entry_of_act}
 use Rattle.bd_entry.specs.Calls.{Place, is_end_of, is_made_by}
-use Rattle.bd_entry.specs.NextEntries.{CreatesAreLegal, IsLegalAt, IsReadyPlace, NextIsLegal, SizesReadAreLegal, running}
+use Rattle.bd_entry.specs.NextEntries.{IsLegalAt, IsReadyPlace, NextIsLegal, running}
 use Rattle.bd_entry.specs.Refusals.{descriptor_of, file_of, first_refusal}
 use Rattle.bd_entry.specs.Rules.{EntryRule, FitsStore, IsOpen, NotRefused, RightFile, WithinLimit}
 use Rattle.bd_entry.specs.RulesOfContents.{MayBegin}
@@ -47,7 +47,7 @@ create_is_legal name perms s holders at before outstanding act e ready own adds 
       keeps = created-keeps s p made.0 perms name made.1 (own.may_begin none);
     })
 
-pub creates_are_legal : CreatesAreLegal
+pub creates_are_legal : (name : List ℕ) (perms : ℕ) → NextIsLegal (Create name perms)
 creates_are_legal name perms = next_from_own (Create name perms) (create_is_legal name perms)
 
 -- ---- questions for a size
@@ -77,5 +77,5 @@ size_is_legal fd s holders at before outstanding act e ready own adds =
       keeps = size_read-keeps s p fd by.0 by.1 (own.may_begin none);
     })
 
-pub sizes_read_are_legal : SizesReadAreLegal
+pub sizes_read_are_legal : (fd : ℕ) → NextIsLegal (Size fd)
 sizes_read_are_legal fd = next_from_own (Size fd) (size_is_legal fd)

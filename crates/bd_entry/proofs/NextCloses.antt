@@ -19,7 +19,7 @@ use Rattle.bd_entry.specs.declared.entry.Entry.{Entry}
 use Rattle.bd_entry.specs.declared.entry.Entry.TheVariants as entries
 use Rattle.bd_entry.specs.Actions.{entry_of_act, keys_by, keys_of_slot, keys_on, keys_where}
 use Rattle.bd_entry.specs.Calls.{Place, is_end_of, is_opened}
-use Rattle.bd_entry.specs.NextEntries.{ClosesAreLegal, IsLegalAt, PlainOpensAreLegal, running}
+use Rattle.bd_entry.specs.NextEntries.{IsLegalAt, NextIsLegal, running}
 use Rattle.bd_entry.specs.Refusals.{descriptor_refusal, first_refusal}
 use Rattle.bd_entry.specs.Rules.{EntryRule, FitsStore, IsOpen, NotRefused, Rights}
 use Rattle.bd_entry.specs.RulesOfContents.{MayBegin}
@@ -142,7 +142,7 @@ plain_open_is_legal name mode s holders at before outstanding act e ready own ad
     })
     own.own adds
 
-pub plain_opens_are_legal : PlainOpensAreLegal
+pub plain_opens_are_legal : (name : List ℕ) (mode : Mode) → NextIsLegal (Enter name mode hows.Plain)
 plain_opens_are_legal name mode = next_from_own (Enter name mode hows.Plain) (plain_open_is_legal name mode)
 
 -- ---- closes
@@ -170,5 +170,5 @@ close_is_legal fd s holders at before outstanding act e ready own adds =
       keeps = closed-keeps s p fd d.0 d.1 (keys_by-none s at.process fd d.0 own.no_keys d.1) may;
     })
 
-pub closes_are_legal : ClosesAreLegal
+pub closes_are_legal : (fd : ℕ) → NextIsLegal (Close fd)
 closes_are_legal fd = next_from_own (Close fd) (close_is_legal fd)

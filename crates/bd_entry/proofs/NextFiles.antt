@@ -23,7 +23,7 @@ use Rattle.bd_entry.specs.declared.entry.Entry.{Entry}
 use Rattle.bd_entry.specs.declared.entry.Entry.TheVariants as entries
 use Rattle.bd_entry.specs.Actions.{entry_of_act, is_none_of, is_to_shrink, keys_on, released_entry, remove_file, truncate_to}
 use Rattle.bd_entry.specs.Calls.{Place, is_made_by, named_fd}
-use Rattle.bd_entry.specs.NextEntries.{IsLegalAt, RemovalsAreLegal, TruncationsAreLegal, running}
+use Rattle.bd_entry.specs.NextEntries.{IsLegalAt, NextIsLegal, running}
 use Rattle.bd_entry.specs.Refusals.{file_of, first_refusal, goal_of, growth_reason, growth_reason_of, is_read_only, next_size, reason_if, truncate_refusal, unlink_denial_of}
 use Rattle.bd_entry.specs.Rules.{EntryRule, FitsStore, IsOpen, NotRefused, RightBlock, RightFile, RightWay, Rights, WithinLimit}
 use Rattle.bd_entry.specs.RulesOfContents.{IsOfGrowth, MayBegin, MayGrowToGoal, NeedsNoLastBlock}
@@ -176,7 +176,7 @@ removal_is_legal name s holders at before outstanding act e ready own adds =
     (ap (entry_of_act s p) release ∙ adds))
     (remove_cases s file act found.2)
 
-pub removals_are_legal : RemovalsAreLegal
+pub removals_are_legal : (name : List ℕ) → NextIsLegal (Unlink name)
 removals_are_legal name = next_from_own (Unlink name) (removal_is_legal name)
 
 -- ---- growth
@@ -332,83 +332,127 @@ truncation_refused-keeps s at before fd size reason allowed why growth NotRefuse
     record { first = ap (λ (o : Option Reason). option_or o (growth_reason_of s p size)) allowed ∙ why; of_growth = λ some. growth }
 truncation_refused-keeps s at before fd size reason allowed why growth rule = tt
 
+-- the facts of a truncation that goes on by this descriptor
+record Truncates (s : Store) (at : At) (before : List Entry) (fd size : ℕ) (d : Descriptor) : Type 0 where
+  valid : Valid s
+  is_open : descriptor_at s at.process fd ≡ Some d
+  allowed : first_refusal s at.process (Truncate fd size) ≡ None
+  small : nat_lt FILE_SIZE size ≡ false
+  lowers : nat_lt size (size_in s d.file) ≡ true → HasNoRights s d.file
+  may_begin : MayBegin s (record { call = Truncate fd size; at = at; before = before })
+
+module _ (s : Store) (at : At) (before : List Entry) (fd size : ℕ) (d : Descriptor) (e : Entry) (facts : Truncates s at before fd size d) where
+  -- where it stands
+  abbrev here : Place
+  here = record { call = Truncate fd size; at = at; before = before }
+
+  of_file : file_of s here ≡ Some d.file
+  of_file = ap (option_map (λ (d : Descriptor). d.file)) facts.is_open
+
+  -- it releases a block that its size does not need
+  truncation-releases : is_to_shrink s d.file size ≡ true → released_entry s here d.file ≡ Some e → IsLegalAt s here e
+  truncation-releases shrinks adds =
+      let parts = and_parts (nat_lt size (size_in s d.file)) (nat_lt (blocks_for size) (length (blocks_in s d.file))) shrinks in
+      release_is_legal s here d.file e
+      (record {
+        of = of_file;
+        kind = λ index block. refl;
+        opened = is_there (descriptor_at s at.process fd) d facts.is_open;
+        no_rights = facts.lowers parts.0;
+        unneeded = λ f there.
+            let more : blocks_for size < length (blocks_in s d.file) = ltb-true (blocks_for size) (length (blocks_in s d.file)) parts.1 in
+            subst (λ (n : ℕ). blocks_for size < n) (ap (λ (slot : Option Inode). length (blocks_of_slot slot)) there) more;
+        may_begin = facts.may_begin;
+      })
+      adds
+
+  -- it is refused, since its file cannot grow further
+  truncation-refused : (reason : Reason) → growth_reason_of s here size ≡ Some reason → entries.Refused at None reason ≡ e → IsLegalAt s here e
+  truncation-refused reason why same =
+      subst (IsLegalAt s here) same
+      (record {
+        of_place = refl;
+        of_call = record { kind = refl; fields = tt };
+        once = tt;
+        keeps = truncation_refused-keeps s at before fd size reason facts.allowed why (growth_reason-of s here size reason why facts.small);
+      })
+
+  -- it grows its file
+  truncation-extends : (to : ℕ) → next_size (size_in s d.file) size ≡ Some to → growth_reason_of s here size ≡ None →
+      entry_of_act s here (acts.Extend d.file to) ≡ Some e → IsLegalAt s here e
+  truncation-extends to next room adds =
+      extension_is_legal s here d.file size to e
+      (record {
+        of = of_file;
+        kind = λ block. refl;
+        opened = is_there (descriptor_at s at.process fd) d facts.is_open;
+        goal_is = refl;
+        room = room;
+        next = next;
+        may_begin = facts.may_begin;
+      })
+      adds
+
+  -- its file has its size
+  truncation-ends : is_to_shrink s d.file size ≡ false → next_size (size_in s d.file) size ≡ None → entries.Sized at fd size ≡ e → IsLegalAt s here e
+  truncation-ends stays reached same =
+      subst (IsLegalAt s here) same
+      (record {
+        of_place = refl;
+        of_call = record { kind = refl; fields = refl };
+        once = tt;
+        keeps =
+            sized-keeps s at before fd size d facts.is_open (sized_blocks s here fd size d facts.valid facts.is_open stays reached) facts.lowers
+            facts.may_begin;
+      })
+
+  truncation-acts : (act : Act) → truncate_to s here size d.file ≡ act → entry_of_act s here act ≡ Some e → IsLegalAt s here e
+  truncation-acts act is adds =
+      let grow : ℕ → Act = λ to. option_map_or (acts.Refuse None) (growth_reason_of s here size) (acts.Extend d.file to) in
+      ⊎_elim {C = IsLegalAt s here e}
+      (λ shrinks. truncation-releases shrinks.0 (ap (entry_of_act s here) shrinks.1 ∙ adds))
+      (λ stays.
+      ⊎_elim {C = IsLegalAt s here e}
+      (λ grows.
+      ⊎_elim {C = IsLegalAt s here e}
+      (λ refused.
+      truncation-refused refused.0 refused.1 (same_Some (entries.Refused at None refused.0) e (ap (entry_of_act s here) refused.2 ∙ adds)))
+      (λ room. truncation-extends grows.0 grows.1 room.0 (ap (entry_of_act s here) room.1 ∙ adds))
+      (map_or_from (acts.Refuse None) (growth_reason_of s here size) (acts.Extend d.file grows.0) act grows.2))
+      (λ reached. truncation-ends stays.0 reached.0 (same_Some (entries.Sized at fd size) e (ap (entry_of_act s here) reached.1 ∙ adds)))
+      (map_or_from grow (next_size (size_in s d.file) size) (acts.Sized size) act stays.1))
+      (cond_from (is_to_shrink s d.file size) (acts.Release d.file) _ act is)
+
+-- the size of a truncation that is not refused is at most that of any file
+truncation-small : (s : Store) (process fd size : ℕ) → first_refusal s process (Truncate fd size) ≡ None → nat_lt FILE_SIZE size ≡ false
+truncation-small s process fd size allowed =
+    let named = open_descriptor s process fd (truncate_refusal size) allowed in
+    reason_if-none (nat_lt FILE_SIZE size) reasons.TooBig
+    (or_none (reason_if (is_read_only named.0.mode) reasons.ReadOnly) (reason_if (nat_lt FILE_SIZE size) reasons.TooBig) named.2).1
+
 truncation_is_legal : (fd size : ℕ) → OwnIsLegal (Truncate fd size)
 truncation_is_legal fd size s holders at before outstanding act e ready own adds =
     let call = Truncate fd size in
     let p : Place = record { call = call; at = at; before = before } in
     let none : outstanding ≡ [] = none_outstanding outstanding (λ number some. false≢true (ready.outstanding number some)) in
-    let may : MayBegin s p = own.may_begin none in
     let allowed : first_refusal s at.process call ≡ None =
-    still_allowed before (first_refusal s at.process call) may (λ some. ready.allowed some refl) in
+    still_allowed before (first_refusal s at.process call) (own.may_begin none) (λ some. ready.allowed some refl) in
     let found = map_from (truncate_to s p size) (file_of s p) act own.own in
     let by = map_from (λ (d : Descriptor). d.file) (descriptor_at s at.process fd) found.0 found.1 in
     let d : Descriptor = by.0 in
-    let is_open = is_there (descriptor_at s at.process fd) d by.1 in
-    let of : file_of s p ≡ Some d.file = found.1 ∙ ap (λ (file : ℕ). Some file) (sym by.2) in
-    let act_is : truncate_to s p size d.file ≡ act = ap (truncate_to s p size) by.2 ∙ found.2 in
-    let named = open_descriptor s at.process fd (truncate_refusal size) allowed in
-    let small : nat_lt FILE_SIZE size ≡ false =
-    reason_if-none (nat_lt FILE_SIZE size) reasons.TooBig
-    (or_none (reason_if (is_read_only named.0.mode) reasons.ReadOnly) (reason_if (nat_lt FILE_SIZE size) reasons.TooBig) named.2).1 in
     let keys : ℕ → List Key = λ file. cond (nat_lt size (size_in s file)) (keys_on s file) [] in
-    let lowers : nat_lt size (size_in s d.file) ≡ true → HasNoRights s d.file =
-    λ less.
-    keys_on-none s d.file
-    (sym (ap (λ (b : Bool). cond b (keys_on s d.file) []) less) ∙ sym (ap (λ (o : Option ℕ). option_map_or keys o []) of) ∙ own.no_keys) in
-    let grow : ℕ → Act = λ to. option_map_or (acts.Refuse None) (growth_reason_of s p size) (acts.Extend d.file to) in
-    ⊎_elim
-    (λ shrinks.
-    let parts = and_parts (nat_lt size (size_in s d.file)) (nat_lt (blocks_for size) (length (blocks_in s d.file))) shrinks.0 in
-    release_is_legal s p d.file e
+    let none_left : keys d.file ≡ [] =
+    sym (ap (λ (slot : Option Descriptor). option_map_or keys (option_map (λ (d : Descriptor). d.file) slot) []) by.1) ∙ own.no_keys in
+    truncation-acts s at before fd size d e
     (record {
-      of = of;
-      kind = λ index block. refl;
-      opened = is_open;
-      no_rights = lowers parts.0;
-      unneeded = λ f there.
-          let count : length (blocks_in s d.file) ≡ length f.blocks = ap (λ (slot : Option Inode). length (blocks_of_slot slot)) there in
-          let more : blocks_for size < length (blocks_in s d.file) = ltb-true (blocks_for size) (length (blocks_in s d.file)) parts.1 in
-          subst (λ (n : ℕ). blocks_for size < n) count more;
-      may_begin = may;
+      valid = ready.valid;
+      is_open = by.1;
+      allowed = allowed;
+      small = truncation-small s at.process fd size allowed;
+      lowers = λ less. keys_on-none s d.file (sym (ap (λ (b : Bool). cond b (keys_on s d.file) []) less) ∙ none_left);
+      may_begin = own.may_begin none;
     })
-    (ap (entry_of_act s p) shrinks.1 ∙ adds))
-    (λ stays.
-    ⊎_elim
-    (λ grows.
-    ⊎_elim
-    (λ refused.
-    let entry : Entry = entries.Refused at None refused.0 in
-    subst (IsLegalAt s p) (same_Some entry e (ap (entry_of_act s p) refused.2 ∙ adds))
-    (record {
-      of_call = record { kind = refl; fields = tt };
-      of_place = refl;
-      once = tt;
-      keeps = truncation_refused-keeps s at before fd size refused.0 allowed refused.1 (growth_reason-of s p size refused.0 refused.1 small);
-    }))
-    (λ room.
-    extension_is_legal s p d.file size grows.0 e
-    (record {
-      of = of;
-      kind = λ block. refl;
-      opened = is_open;
-      goal_is = refl;
-      room = room.0;
-      next = grows.1;
-      may_begin = may;
-    })
-    (ap (entry_of_act s p) room.1 ∙ adds))
-    (map_or_from (acts.Refuse None) (growth_reason_of s p size) (acts.Extend d.file grows.0) act grows.2))
-    (λ reached.
-    let entry : Entry = entries.Sized at fd size in
-    subst (IsLegalAt s p) (same_Some entry e (ap (entry_of_act s p) reached.1 ∙ adds))
-    (record {
-      of_call = record { kind = refl; fields = refl };
-      of_place = refl;
-      once = tt;
-      keeps = sized-keeps s at before fd size d by.1 (sized_blocks s p fd size d ready.valid by.1 stays.0 reached.0) lowers may;
-    }))
-    (map_or_from grow (next_size (size_in s d.file) size) (acts.Sized size) act stays.1))
-    (cond_from (is_to_shrink s d.file size) (acts.Release d.file) _ act act_is)
+    act (ap (truncate_to s p size) by.2 ∙ found.2) adds
 
-pub truncations_are_legal : TruncationsAreLegal
+pub truncations_are_legal : (fd size : ℕ) → NextIsLegal (Truncate fd size)
 truncations_are_legal fd size = next_from_own (Truncate fd size) (truncation_is_legal fd size)

@@ -21,7 +21,7 @@ use Rattle.bd_entry.specs.declared.entry.Entry.TheVariants as entries
 use Rattle.bd_entry.specs.Actions.{attach_by, attach_or_map, entry_of_act, open_file}
 use Rattle.bd_entry.specs.Calls.{Place, fd_of, is_end_of, is_made_by, is_opened, opened_fd}
 use Rattle.bd_entry.specs.Laws.{AreOfCall}
-use Rattle.bd_entry.specs.NextEntries.{DirectOpensAreLegal, IsLegalAt, MapsAreLegal, running}
+use Rattle.bd_entry.specs.NextEntries.{IsLegalAt, NextIsLegal, running}
 use Rattle.bd_entry.specs.Refusals.{denial, file_of, first_refusal, reason_if}
 use Rattle.bd_entry.specs.Rules.{Allowed, EntryRule, FitsStore, IsOpen, NoPlain, NotRefused, RightFile, Rights}
 use Rattle.bd_entry.specs.RulesOfContents.{MayBegin}
@@ -105,7 +105,7 @@ map_is_legal fd s holders at before outstanding act e ready own adds =
     let none : outstanding ≡ [] = none_outstanding outstanding (λ number some. false≢true (ready.outstanding number some)) in
     attach_is_legal s r.place fd act e (record { by = refl; attached = λ part. refl; mapped = λ count. refl }) (own.may_begin none) own.own adds
 
-pub maps_are_legal : MapsAreLegal
+pub maps_are_legal : (fd : ℕ) → NextIsLegal (Map fd)
 maps_are_legal fd = next_from_own (Map fd) (map_is_legal fd)
 
 -- ---- opens
@@ -182,5 +182,5 @@ direct_open_is_legal name mode s holders at before outstanding act e ready own a
     new.1 adds)
     (map_or_from (attach_by s p) (fd_of p) (open_file s p) (Some act) own.own)
 
-pub direct_opens_are_legal : DirectOpensAreLegal
+pub direct_opens_are_legal : (name : List ℕ) (mode : Mode) → NextIsLegal (Enter name mode hows.Direct)
 direct_opens_are_legal name mode = next_from_own (Enter name mode hows.Direct) (direct_open_is_legal name mode)

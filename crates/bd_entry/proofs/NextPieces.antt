@@ -28,7 +28,7 @@ use Rattle.bd_entry.specs.declared.entry.Entry.{Entry}
 use Rattle.bd_entry.specs.declared.entry.Entry.TheVariants as entries
 use Rattle.bd_entry.specs.Actions.{Holders, Running, access_piece, busy, entry_of_act, is_none_of, kernel_bytes, kernel_entry, kernel_part, kernel_way, move_piece, piece_numbers, submit_or_poll, write_piece}
 use Rattle.bd_entry.specs.Calls.{Place, bytes_for_piece, does_write, fd_of, has_missed, is_answered, is_made_by, is_raw, named_fd, piece_end, piece_of_call, pieces_of_call}
-use Rattle.bd_entry.specs.NextEntries.{IsLegalAt, IsReadyPlace, ReadsAreLegal, WritesAreLegal, running}
+use Rattle.bd_entry.specs.NextEntries.{IsLegalAt, IsReadyPlace, NextIsLegal, running}
 use Rattle.bd_entry.specs.Refusals.{descriptor_of, file_of, first_refusal, goal_of, goes_direct, growth_reason_of, is_for_kernel, is_next_for_kernel, is_read_only, next_size, piece_refusal, reason_if}
 use Rattle.bd_entry.specs.Rules.{Allowed, EntryRule, FitsStore, IsOpen, NotRefused, RightBlock, RightBytes, RightFile, RightWay, Rights, WithinLimit}
 use Rattle.bd_entry.specs.RulesOfContents.{EndsWithin, IsContent, MayBegin, bytes_within}
@@ -59,10 +59,10 @@ record Moves (s : Store) (p : Place) (outstanding : List ℕ) (act : Act) : Type
 pub submitted_adds_none : (s : Store) (r : Running) (act : Act) → submit_or_poll s r ≡ Some act → entry_of_act s r.place act ≡ None
 submitted_adds_none s r act is =
     let p = r.place in
-    ⊎_elim
+    ⊎_elim {C = entry_of_act s r.place act ≡ None}
     (λ submits. let by = map_from acts.Submit _ act submits in ap (entry_of_act s p) (sym by.2))
     (λ polls.
-    ⊎_elim
+    ⊎_elim {C = entry_of_act s r.place act ≡ None}
     (λ nothing. absurd (none-some act nothing.1))
     (λ some. ap (entry_of_act s p) (sym (same_Some acts.Poll act some.1)))
     (cond_from (is_none_of r.outstanding) None (Some acts.Poll) (Some act) polls.1))
@@ -241,7 +241,7 @@ read_is_legal fd off len s holders at before outstanding act e ready own adds =
     })
     (ap (entry_of_act s p) moves.act_is ∙ adds)
 
-pub reads_are_legal : ReadsAreLegal
+pub reads_are_legal : (fd off len : ℕ) → NextIsLegal (Read fd off len)
 reads_are_legal fd off len = next_from_own (Read fd off len) (read_is_legal fd off len)
 
 -- ---- writes
@@ -298,68 +298,99 @@ refused_piece-keeps s p number piece d reason is of for_kernel allowed why NotRe
     record { not_whole = allowed; first = ap (option_and_then (λ piece. growth_reason_of s p (piece_end piece))) is ∙ why }
 refused_piece-keeps s p number piece d reason is of for_kernel allowed why rule = tt
 
+module _ (s : Store) (at : At) (before : List Entry) (outstanding : List ℕ) (fd off : ℕ) (bytes : List ℕ) (act : Act) (e : Entry)
+    (ready : IsReadyPlace s (running (Write fd off bytes) at before outstanding))
+    (moves : Moves s (running (Write fd off bytes) at before outstanding).place outstanding act)
+    (allowed : first_refusal s at.process (Write fd off bytes) ≡ None)
+    (may : MayBegin s (running (Write fd off bytes) at before outstanding).place) where
+  -- where the write stands
+  abbrev here : Place
+  here = (running (Write fd off bytes) at before outstanding).place
+
+  is_open : descriptor_at s at.process fd ≡ Some moves.d
+  is_open = moves.of
+
+  -- its descriptor may write
+  writes_mode : moves.d.mode ≡ Rw
+  writes_mode =
+      let named = open_descriptor s at.process fd (λ d. reason_if (is_read_only d.mode) reasons.ReadOnly) allowed in
+      subst (λ (d : Descriptor). d.mode ≡ Rw) (same_Some named.0 moves.d (sym named.1 ∙ is_open))
+      (not_read_only named.0.mode (reason_if-none (is_read_only named.0.mode) reasons.ReadOnly named.2))
+
+  -- a piece of it is refused
+  write-refused : (reason : Reason) → growth_reason_of s here (piece_end moves.piece) ≡ Some reason → entries.Refused at (Some moves.number) reason ≡ e →
+      IsLegalAt s here e
+  write-refused reason why same =
+      subst (IsLegalAt s here) same
+      (record {
+        of_place = refl;
+        of_call = record { kind = refl; fields = is_there (piece_of_call here.call moves.number) moves.piece moves.piece_is };
+        once = moves.unanswered;
+        keeps = refused_piece-keeps s here moves.number moves.piece moves.d reason moves.piece_is moves.of moves.for_kernel allowed why;
+      })
+
+  -- its file grows towards the end of a piece
+  write-extends : (to : ℕ) → next_size (size_in s moves.d.file) (piece_end moves.piece) ≡ Some to →
+      growth_reason_of s here (piece_end moves.piece) ≡ None → entry_of_act s here (acts.Extend moves.d.file to) ≡ Some e → IsLegalAt s here e
+  write-extends to next room adds =
+      extension_is_legal s here moves.d.file (piece_end moves.piece) to e
+      (record {
+        of = ap (option_map (λ (d : Descriptor). d.file)) is_open;
+        kind = λ block. refl;
+        opened = is_there (descriptor_at s at.process fd) moves.d is_open;
+        goal_is = ap (option_map piece_end) (ap (option_and_then (piece_of_call here.call)) moves.found ∙ moves.piece_is);
+        room = room;
+        next = next;
+        may_begin = may;
+      })
+      adds
+
+  -- a piece of it is written
+  write-accesses : next_size (size_in s moves.d.file) (piece_end moves.piece) ≡ None →
+      entry_of_act s here (access_piece here moves.number moves.d) ≡ Some e → IsLegalAt s here e
+  write-accesses reached adds =
+      access_is_legal s here moves.number fd moves.piece moves.d e
+      (record {
+        named = refl;
+        piece_is = moves.piece_is;
+        of = moves.of;
+        no_raw = refl;
+        kind = λ way. refl;
+        unanswered = moves.unanswered;
+        for_kernel = moves.for_kernel;
+        missed = λ missed. ready.missed moves.number moves.piece moves.d missed moves.piece_is moves.of;
+        mode = λ writes. writes_mode;
+        within = λ writes.
+            let in_block = piece_of_call-in_block here.call moves.number moves.piece ready.within moves.piece_is in
+            piece-within s at.process fd moves.d moves.piece ready.valid is_open in_block reached;
+        may_begin = may;
+      })
+      adds
+
+  write-acts : entry_of_act s here act ≡ Some e → IsLegalAt s here e
+  write-acts adds =
+      let number : ℕ = moves.number in
+      let file : ℕ = moves.d.file in
+      let end : ℕ = piece_end moves.piece in
+      let grow : ℕ → Act = λ to. option_map_or (acts.Refuse (Some number)) (growth_reason_of s here end) (acts.Extend file to) in
+      ⊎_elim {C = IsLegalAt s here e}
+      (λ grows.
+      ⊎_elim {C = IsLegalAt s here e}
+      (λ refused.
+      write-refused refused.0 refused.1 (same_Some (entries.Refused at (Some number) refused.0) e (ap (entry_of_act s here) refused.2 ∙ adds)))
+      (λ room. write-extends grows.0 grows.1 room.0 (ap (entry_of_act s here) room.1 ∙ adds))
+      (map_or_from (acts.Refuse (Some number)) (growth_reason_of s here end) (acts.Extend file grows.0) act grows.2))
+      (λ reached. write-accesses reached.0 (ap (entry_of_act s here) reached.1 ∙ adds))
+      (map_or_from grow (next_size (size_in s file) end) (access_piece here number moves.d) act moves.act_is)
+
 write_is_legal : (fd off : ℕ) (bytes : List ℕ) → OwnIsLegal (Write fd off bytes)
 write_is_legal fd off bytes s holders at before outstanding act e ready own adds =
     let call = Write fd off bytes in
-    let r = running call at before outstanding in
-    let p = r.place in
-    let moves = kernel_moves s holders r act e own.own adds in
-    let number : ℕ = moves.number in
-    let piece : Piece = moves.piece in
-    let d : Descriptor = moves.d in
-    let may : MayBegin s p = own.may_begin moves.none in
+    let moves = kernel_moves s holders (running call at before outstanding) act e own.own adds in
+    let may = own.may_begin moves.none in
     let allowed : first_refusal s at.process call ≡ None =
     still_allowed before (first_refusal s at.process call) may (λ some. ready.allowed some refl) in
-    let is_open : descriptor_at s at.process fd ≡ Some d = moves.of in
-    let end : ℕ = piece_end piece in
-    let grow : ℕ → Act = λ to. option_map_or (acts.Refuse (Some number)) (growth_reason_of s p end) (acts.Extend d.file to) in
-    ⊎_elim
-    (λ grows.
-    ⊎_elim
-    (λ refused.
-    let entry : Entry = entries.Refused at (Some number) refused.0 in
-    subst (IsLegalAt s p) (same_Some entry e (ap (entry_of_act s p) refused.2 ∙ adds))
-    (record {
-      of_call = record { kind = refl; fields = is_there (piece_of_call call number) piece moves.piece_is };
-      of_place = refl;
-      once = moves.unanswered;
-      keeps = refused_piece-keeps s p number piece d refused.0 moves.piece_is moves.of moves.for_kernel allowed refused.1;
-    }))
-    (λ room.
-    extension_is_legal s p d.file end grows.0 e
-    (record {
-      of = ap (option_map (λ (d : Descriptor). d.file)) is_open;
-      kind = λ block. refl;
-      opened = is_there (descriptor_at s at.process fd) d is_open;
-      goal_is = ap (option_map piece_end) (ap (option_and_then (piece_of_call call)) moves.found ∙ moves.piece_is);
-      room = room.0;
-      next = grows.1;
-      may_begin = may;
-    })
-    (ap (entry_of_act s p) room.1 ∙ adds))
-    (map_or_from (acts.Refuse (Some number)) (growth_reason_of s p end) (acts.Extend d.file grows.0) act grows.2))
-    (λ reached.
-    let named = open_descriptor s at.process fd (λ d. reason_if (is_read_only d.mode) reasons.ReadOnly) allowed in
-    let same : named.0 ≡ d = same_Some named.0 d (sym named.1 ∙ is_open) in
-    let mode : d.mode ≡ Rw =
-    subst (λ (d : Descriptor). d.mode ≡ Rw) same
-    (not_read_only named.0.mode (reason_if-none (is_read_only named.0.mode) reasons.ReadOnly named.2)) in
-    access_is_legal s p number fd piece d e
-    (record {
-      named = refl;
-      piece_is = moves.piece_is;
-      of = moves.of;
-      no_raw = refl;
-      kind = λ way. refl;
-      unanswered = moves.unanswered;
-      for_kernel = moves.for_kernel;
-      missed = λ missed. ready.missed number piece d missed moves.piece_is moves.of;
-      mode = λ writes. mode;
-      within = λ writes. piece-within s at.process fd d piece ready.valid is_open (piece_of_call-in_block call number piece ready.within moves.piece_is) reached.0;
-      may_begin = may;
-    })
-    (ap (entry_of_act s p) reached.1 ∙ adds))
-    (map_or_from grow (next_size (size_in s d.file) end) (access_piece p number d) act moves.act_is)
+    write-acts s at before outstanding fd off bytes act e ready moves allowed may adds
 
-pub writes_are_legal : WritesAreLegal
+pub writes_are_legal : (fd off : ℕ) (bytes : List ℕ) → NextIsLegal (Write fd off bytes)
 writes_are_legal fd off bytes = next_from_own (Write fd off bytes) (write_is_legal fd off bytes)

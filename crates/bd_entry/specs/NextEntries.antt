@@ -77,47 +77,6 @@ NextIsLegal call =
     let r = running call at before outstanding in
     IsReadyPlace s r → next_act s holders r ≡ Some act → entry_of_act s r.place act ≡ Some e → IsLegalAt s r.place e
 
--- a create makes its file, or is refused
-abbrev pub CreatesAreLegal : Type 0
-CreatesAreLegal = (name : List ℕ) (perms : ℕ) → NextIsLegal (Create name perms)
-
--- a question for the size is answered, or refused
-abbrev pub SizesReadAreLegal : Type 0
-SizesReadAreLegal = (fd : ℕ) → NextIsLegal (Size fd)
-
--- a map attaches a right or tells how many there are, or is refused
-abbrev pub MapsAreLegal : Type 0
-MapsAreLegal = (fd : ℕ) → NextIsLegal (Map fd)
-
--- a direct open opens, attaches a right or tells how many there are, or is refused
-abbrev pub DirectOpensAreLegal : Type 0
-DirectOpensAreLegal = (name : List ℕ) (mode : Mode) → NextIsLegal (Enter name mode hows.Direct)
-
--- a plain open opens once no right on its file is attached, or is refused
-abbrev pub PlainOpensAreLegal : Type 0
-PlainOpensAreLegal = (name : List ℕ) (mode : Mode) → NextIsLegal (Enter name mode hows.Plain)
-
--- a close closes once its descriptor has no right, or is refused
-abbrev pub ClosesAreLegal : Type 0
-ClosesAreLegal = (fd : ℕ) → NextIsLegal (Close fd)
-
--- a removal releases a block of a file that nobody has open or takes it away, or is refused
-abbrev pub RemovalsAreLegal : Type 0
-RemovalsAreLegal = (name : List ℕ) → NextIsLegal (Unlink name)
-
--- a truncation releases a block once no right on its file is attached, grows its file or ends, or is refused
-abbrev pub TruncationsAreLegal : Type 0
-TruncationsAreLegal = (fd size : ℕ) → NextIsLegal (Truncate fd size)
-
--- a read has the kernel's access of a piece that is not for the device, or is refused
-abbrev pub ReadsAreLegal : Type 0
-ReadsAreLegal = (fd off len : ℕ) → NextIsLegal (Read fd off len)
-
--- a write has the kernel's access of such a piece, after its file has grown to the piece's end, or a refusal of it, or is
--- refused
-abbrev pub WritesAreLegal : Type 0
-WritesAreLegal = (fd off : ℕ) (bytes : List ℕ) → NextIsLegal (Write fd off bytes)
-
 -- whatever any call does next, the entry that it adds is legal
 abbrev pub NextEntriesAreLegal : Type 0
 NextEntriesAreLegal = (call : Call) → NextIsLegal call
