@@ -43,6 +43,7 @@ pub mod NextCloses
 pub mod NextFiles
 pub mod NextPieces
 pub mod NextEntries
+pub mod NextReady
 mod BadLines
 mod Fields
 mod FirstWords

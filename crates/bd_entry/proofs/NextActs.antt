@@ -65,6 +65,7 @@ busy_adds_none s holders p act is =
     by : (file holder : ℕ) (b : Bool) → cond b None (Some (acts.Busy file holder)) ≡ Some act → entry_of_act s p act ≡ None
     by file holder true is = absurd (none-some act is)
     by file holder false is = ap (entry_of_act s p) (sym (same_Some (acts.Busy file holder) act is))
+
     waits : (file : ℕ) (o : Option ℕ) → wait_for p.at.process file o ≡ Some act → entry_of_act s p act ≡ None
     waits file None is = absurd (none-some act is)
     waits file (Some holder) is = by file holder (nat_eq holder p.at.process) is
@@ -86,6 +87,7 @@ first_act s holders p (Some reason) act e is adds = (reason, refl, by (comes_bef
         act ≡ acts.Refuse None reason
     later None is none = sym (same_Some (acts.Refuse None reason) act is)
     later (Some other) is none = absurd (none-some e (sym (none is) ∙ adds))
+
     by : (b : Bool) →
         cond b (Some (acts.Refuse None reason)) (option_or (busy_at_first s holders p) (Some (acts.Refuse None reason))) ≡ Some act →
         act ≡ acts.Refuse None reason
@@ -100,6 +102,7 @@ none_at_first s holders p (Some reason) none = absurd (by (comes_before_holder r
     later : (o : Option Act) → option_or o (Some (acts.Refuse None reason)) ≡ None → ⊥
     later None none = none-some (acts.Refuse None reason) (sym none)
     later (Some other) none = none-some other (sym none)
+
     by : (b : Bool) → cond b (Some (acts.Refuse None reason)) (option_or (busy_at_first s holders p) (Some (acts.Refuse None reason))) ≡ None → ⊥
     by true none = none-some (acts.Refuse None reason) (sym none)
     by false none = later (busy_at_first s holders p) none

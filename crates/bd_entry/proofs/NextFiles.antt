@@ -77,11 +77,14 @@ released-keeps s p file block releases is RightBlock =
     let there = has_block (file_in s file) last block is in
     let same : blocks_in s file ≡ there.0.blocks = ap blocks_of_slot there.1 in
     let count : length (blocks_in s file) ≡ length there.0.blocks = ap length same in
-    let within : last < length (blocks_in s file) = slice_get_within (blocks_in s file) last block is in
-    (there.0, there.1, record {
-      index_is = omega arith;
-      block_is = subst (λ (blocks : List ℕ). slice_get blocks (length blocks - 1) ≡ Some block) same is;
-    })
+    let within : last < length (blocks_in s file) = slice_get_within (blocks_in s file) last block is in (
+      there.0,
+      there.1,
+      record {
+        index_is = omega arith;
+        block_is = subst (λ (blocks : List ℕ). slice_get blocks (length blocks - 1) ≡ Some block) same is;
+      },
+    )
 released-keeps s p file block releases is WithinLimit =
     let there = has_block (file_in s file) (length (blocks_in s file) - 1) block is in
     (there.0, there.1, releases.unneeded there.0 there.1)

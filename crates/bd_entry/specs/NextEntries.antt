@@ -7,6 +7,8 @@ use Rattle.bd_base.specs.declared.script.How.{How}
 use Rattle.bd_base.specs.declared.script.How.TheVariants as hows
 use Rattle.bd_base.specs.declared.script.Mode.{Mode}
 use Rattle.bd_base.specs.declared.reason.Reason.{Reason}
+use Rattle.bd_base.specs.declared.script.Script.{Script}
+use Rattle.bd_base.specs.declared.volume.Volume.{Volume}
 use Rattle.bd_base.specs.declared.journal.At.{At}
 use Rattle.bd_base.specs.Bounds.{Bounds}
 use Rattle.bd_base.specs.Pieces.{Piece}
@@ -15,13 +17,13 @@ use Rattle.bd_entry.specs.declared.act.Act.{Act}
 use Rattle.bd_entry.specs.declared.act.Act.TheVariants as acts
 use Rattle.bd_entry.specs.declared.entry.Entry.{Entry}
 use Rattle.bd_entry.specs.Actions.{Holders, Running, entry_of_act, next_act}
-use Rattle.bd_entry.specs.Calls.{Place, at_of, has_missed, is_ended_by, piece_of_call}
+use Rattle.bd_entry.specs.Calls.{Place, at_of, call_at, has_missed, is_ended_by, piece_of_call}
 use Rattle.bd_entry.specs.Effects.{effect_of}
 use Rattle.bd_entry.specs.History.{Step}
-use Rattle.bd_entry.specs.Laws.{AreOfCall, IsNextEntry}
+use Rattle.bd_entry.specs.Laws.{AreOfCall, IsHistory, IsNextEntry}
 use Rattle.bd_entry.specs.Refusals.{descriptor_of, first_refusal, goes_direct}
 use Rattle.bd_entry.specs.Rules.{EntryRule, FitsStore}
-use Rattle.bd_entry.specs.RulesOfCalls.{IsFirstOfKind, IsOfCall}
+use Rattle.bd_entry.specs.RulesOfCalls.{IsFirstOfKind, IsNextCall, IsOfCall}
 use Rattle.bd_entry.specs.Store.{Descriptor, Store, Valid, work_of}
 
 -- ---- a call that goes on
@@ -93,3 +95,28 @@ NextEntriesLeadOn =
     (s : Store) (holders : Holders) (call : Call) (at : At) (outstanding : List ℕ) (act : Act) (e : Entry) →
     let r = running call at (work_of s at.process) outstanding in
     IsReadyPlace s r → next_act s holders r ≡ Some act → entry_of_act s r.place act ≡ Some e → LeadsOn s r.place e
+
+-- ---- the running calls of legal journals
+
+-- whether the call finds its file by its name again as it goes on
+abbrev pub goes_by_name : Call → Bool
+goes_by_name (Enter name mode hows.Plain) = true
+goes_by_name (Unlink name) = true
+goes_by_name call = false
+
+-- the running call of a process in a legal journal in order, with commands outstanding of its pieces alone; of one that
+-- finds its file by its name no refusal holds once it has begun, as where no other process opens, makes or removes it
+pub record IsRunning (v : Volume) (script : Script) (before : List Entry) (s : Store) (call : Call) (at : At)
+    (outstanding : List ℕ) : Type 0 where
+  pub history : IsHistory v script before s
+  pub called : call_at script at ≡ Some call
+  pub next : IsNextCall script before at
+  pub of_pieces : (number : ℕ) → list_any (nat_eq number) outstanding ≡ true → IsSome (piece_of_call call number)
+  pub file_stays : goes_by_name call ≡ true → work_of s at.process ≢ [] → first_refusal s at.process call ≡ None
+
+-- such a call is ready for what it does next
+abbrev pub RunningCallsAreReady : Type 0
+RunningCallsAreReady =
+    (v : Volume) (script : Script) (before : List Entry) (s : Store) (call : Call) (at : At) (outstanding : List ℕ) →
+    IsRunning v script before s call at outstanding →
+    IsReadyPlace s (running call at (work_of s at.process) outstanding)
