@@ -1,24 +1,23 @@
 -- What the next action of a call is: a refusal as it begins, or the call's own action with nothing left to revoke.
-use Rattle.std.proofs.Common.{◌≡◌, ◌≢◌, ◌⊎◌, inl, inr, ℕ, Bool, true, false, not, ◌&&◌, ◌||◌, cond, List, [], ◌∷◌, ◌++◌, Option, None, Some, refl, sym, ap, ◌∙◌, subst, ⊎_elim}
-use Rattle.std.specs.Prelude.{nat_eq, slice_get, is_some, IsSome}
+use Rattle.std.proofs.Common.{◌≡◌, ◌≢◌, ◌⊎◌, inl, inr, ℕ, Bool, true, false, not, ◌&&◌, cond, List, [], ◌∷◌, Option, None, Some, refl, sym, ap, ◌∙◌, subst, ⊎_elim}
+use Rattle.std.specs.Prelude.{nat_eq, is_some, IsSome}
 use Rattle.std.specs.Option.{option_and_then, option_map, option_map_or, option_or}
 use Rattle.std.specs.List.{list_any}
-use Rattle.std.proofs.lemmas.Bool.{both_ways, eq-eqb, false_from_ne_true, false≢true, or_from, or_left, or_parts}
+use Rattle.std.proofs.lemmas.Bool.{both_ways, eq-eqb, false_from_ne_true, or_from, or_left, or_parts}
 use Rattle.std.proofs.lemmas.Option.{none-some, same_Some}
 use Rattle.bd_base.specs.declared.key.Key.{Key}
 use Rattle.bd_base.specs.declared.reason.Reason.{Reason}
 use Rattle.bd_base.specs.declared.reason.Reason.TheVariants as reasons
 use Rattle.bd_base.specs.declared.script.Call.{Call}
-use Rattle.bd_base.specs.declared.script.Call.TheVariants.{Enter, Create, Read, Write, Truncate, Unlink, Size, Map, Close, RawRead, RawWrite}
+use Rattle.bd_base.specs.declared.script.Call.TheVariants.{RawRead, RawWrite}
 use Rattle.bd_base.specs.declared.journal.At.{At}
 use Rattle.bd_entry.specs.declared.act.Act.{Act}
 use Rattle.bd_entry.specs.declared.act.Act.TheVariants as acts
 use Rattle.bd_entry.specs.declared.entry.Entry.{Entry}
 use Rattle.bd_entry.specs.declared.entry.Entry.TheVariants as entries
 use Rattle.bd_entry.specs.Actions.{Holders, Running, before_beginning, busy, busy_at_first, comes_before_holder, entry_of_act, has_begun, is_none_of, keys_to_revoke, next_act, own_act, revoke, tests_for_holder, wait_for}
-use Rattle.bd_entry.specs.Calls.{Place, fd_of, is_end_of, is_made_by, is_raw, pieces_of_call}
-use Rattle.bd_entry.specs.Laws.{AreOfCall}
-use Rattle.bd_entry.specs.NextEntries.{IsLegalAt, IsReadyPlace, NextIsLegal, running, stays_allowed}
+use Rattle.bd_entry.specs.Calls.{Place, fd_of, is_made_by, is_raw}
+use Rattle.bd_entry.specs.NextEntries.{IsLegalAt, IsReadyPlace, NextIsLegal, running}
 use Rattle.bd_entry.specs.Refusals.{descriptor_refusal, file_of, first_refusal, growth_reason_of, truncation_goal}
 use Rattle.bd_entry.specs.Rules.{EntryRule, FitsStore, NotRefused, RightWay}
 use Rattle.bd_entry.specs.RulesOfContents.{MayBegin}
@@ -168,15 +167,6 @@ pub none_outstanding : (outstanding : List ℕ) → ((number : ℕ) → list_any
 none_outstanding [] none = refl
 none_outstanding (number ∷ numbers) none =
     absurd (none number (or_left (nat_eq number number) (list_any (nat_eq number) numbers) (eq-eqb number number refl)))
-
--- a call of which every entry ends it has none
-pub none_before : (call : Call) (p : Place) (before : List Entry) → p.call ≡ call → ((e : Entry) → is_made_by call e ≡ true → is_end_of call e ≡ true) →
-    AreOfCall p before → list_any (is_end_of call) before ≡ false → before ≡ []
-none_before call p [] is ends of unfinished = refl
-none_before call p (e ∷ before) is ends of unfinished =
-    absurd
-    (both_ways (is_end_of call e) (or_parts (is_end_of call e) (list_any (is_end_of call) before) unfinished).0
-    (ends e (sym (ap (λ (c : Call). is_made_by c e) is) ∙ of.0.kind)))
 
 -- a call that no refusal holds of as it begins, nor later
 pub still_allowed : (before : List Entry) (o : Option Reason) → (before ≡ [] → o ≡ None) → (before ≢ [] → o ≡ None) → o ≡ None

@@ -1,23 +1,16 @@
 -- The next entry of each call is legal.
-use Rattle.std.proofs.Common.{◌≡◌, ◌≢◌, ◌⊎◌, inl, inr, ℕ, Bool, true, false, not, ◌&&◌, ◌||◌, cond, List, [], ◌∷◌, ◌++◌, length, Option, None, Some, refl, sym, ap, ◌∙◌, subst, ⊎_elim}
-use Rattle.std.specs.Prelude.{nat_eq, slice_get, is_some, IsSome}
-use Rattle.std.specs.Option.{option_and_then, option_map, option_map_or, option_or}
-use Rattle.std.specs.List.{list_any}
-use Rattle.std.proofs.lemmas.Bool.{both_ways, false≢true, or_parts}
-use Rattle.std.proofs.lemmas.Option.{none-some, same_Some}
-use Rattle.bd_base.specs.declared.reason.Reason.{Reason}
-use Rattle.bd_base.specs.declared.script.Call.{Call}
-use Rattle.bd_base.specs.declared.script.Call.TheVariants.{Enter, Create, Read, Write, Truncate, Unlink, Size, Map, Close, RawRead, RawWrite}
-use Rattle.bd_base.specs.declared.journal.At.{At}
-use Rattle.bd_base.specs.Inodes.{create_refusal, free_id}
-use Rattle.bd_entry.specs.declared.act.Act.{Act}
+use Rattle.std.proofs.Common.{◌≡◌, ℕ, List, [], Some, refl, ap, ◌∙◌, subst}
+use Rattle.std.proofs.lemmas.Bool.{false≢true}
+use Rattle.std.proofs.lemmas.Option.{same_Some}
+use Rattle.bd_base.specs.declared.script.Call.TheVariants.{Create, Size}
+use Rattle.bd_base.specs.Inodes.{free_id}
 use Rattle.bd_entry.specs.declared.act.Act.TheVariants as acts
 use Rattle.bd_entry.specs.declared.entry.Entry.{Entry}
 use Rattle.bd_entry.specs.declared.entry.Entry.TheVariants as entries
-use Rattle.bd_entry.specs.Actions.{Holders, Running, entry_of_act}
-use Rattle.bd_entry.specs.Calls.{Place, is_end_of, is_made_by}
-use Rattle.bd_entry.specs.NextEntries.{IsLegalAt, IsReadyPlace, NextIsLegal, running}
-use Rattle.bd_entry.specs.Refusals.{descriptor_of, file_of, first_refusal}
+use Rattle.bd_entry.specs.Actions.{entry_of_act}
+use Rattle.bd_entry.specs.Calls.{Place}
+use Rattle.bd_entry.specs.NextEntries.{IsLegalAt, NextIsLegal, running}
+use Rattle.bd_entry.specs.Refusals.{file_of}
 use Rattle.bd_entry.specs.Rules.{EntryRule, FitsStore, IsOpen, NotRefused, RightFile, WithinLimit}
 use Rattle.bd_entry.specs.RulesOfContents.{MayBegin}
 use Rattle.bd_entry.specs.Store.{Descriptor, Store, descriptor_at, size_in}

@@ -1,31 +1,27 @@
 -- The next entries of plain opens and closes are legal: where there is no key to revoke, no right is left.
-use Rattle.std.proofs.Common.{◌≡◌, ◌≢◌, ◌⊎◌, ℕ, zero, suc, ◌+◌, Bool, true, false, ◌&&◌, ◌||◌, cond, List, [], ◌∷◌, ◌++◌, map, filter, length, Option, None, Some, refl, sym, ap, ◌∙◌, subst, arith}
+use Rattle.std.proofs.Common.{◌≡◌, ℕ, zero, suc, ◌+◌, Bool, true, false, ◌&&◌, ◌||◌, cond, List, [], ◌∷◌, ◌++◌, map, filter, length, Option, None, Some, refl, sym, ap, ◌∙◌, subst, arith}
 use Rattle.std.specs.Prelude.{nat_eq, nat_lt, slice_index_or}
-use Rattle.std.specs.Option.{option_map, option_map_or}
+use Rattle.std.specs.Option.{option_map_or}
 use Rattle.std.specs.List.{enumerate_from, flat_map, list_any}
-use Rattle.std.proofs.lemmas.Bool.{and_from, both_ways, eq-eqb, false≢true, or_from, or_left, or_parts}
+use Rattle.std.proofs.lemmas.Bool.{and_from, both_ways, eq-eqb, false≢true, or_from, or_parts}
 use Rattle.std.proofs.lemmas.List.Folds.{list_any-append}
 use Rattle.std.proofs.lemmas.Option.{same_Some}
 use Rattle.bd_base.specs.declared.key.Key.{Key}
-use Rattle.bd_base.specs.declared.script.Call.{Call}
 use Rattle.bd_base.specs.declared.script.Call.TheVariants.{Close, Enter}
 use Rattle.bd_base.specs.declared.script.How.TheVariants as hows
 use Rattle.bd_base.specs.declared.script.Mode.{Mode}
-use Rattle.bd_base.specs.declared.journal.At.{At}
-use Rattle.bd_base.specs.Inodes.{id_of}
-use Rattle.bd_entry.specs.declared.act.Act.{Act}
 use Rattle.bd_entry.specs.declared.act.Act.TheVariants as acts
 use Rattle.bd_entry.specs.declared.entry.Entry.{Entry}
 use Rattle.bd_entry.specs.declared.entry.Entry.TheVariants as entries
 use Rattle.bd_entry.specs.Actions.{entry_of_act, keys_by, keys_of_slot, keys_on, keys_where}
 use Rattle.bd_entry.specs.Calls.{Place, is_end_of, is_opened}
 use Rattle.bd_entry.specs.NextEntries.{IsLegalAt, NextIsLegal, running}
-use Rattle.bd_entry.specs.Refusals.{descriptor_refusal, first_refusal}
+use Rattle.bd_entry.specs.Refusals.{first_refusal}
 use Rattle.bd_entry.specs.Rules.{EntryRule, FitsStore, IsOpen, NotRefused, Rights}
 use Rattle.bd_entry.specs.RulesOfContents.{MayBegin}
 use Rattle.bd_entry.specs.RulesOfRights.{HasNoRights}
-use Rattle.bd_entry.specs.Store.{Descriptor, Store, descriptor_at, has_rights, is_attached_of, slots_of}
-use Rattle.bd_entry.proofs.NextActs.{OwnIsLegal, any-stricter, is_there, map_from, next_from_own, none_outstanding, open_descriptor, still_allowed}
+use Rattle.bd_entry.specs.Store.{Descriptor, Store, descriptor_at, is_attached_of, slots_of}
+use Rattle.bd_entry.proofs.NextActs.{OwnIsLegal, any-stricter, is_there, next_from_own, none_outstanding, open_descriptor, still_allowed}
 use Rattle.bd_entry.proofs.NextOpens.{open_is_legal}
 
 -- ---- lists without an element

@@ -1,7 +1,6 @@
 -- Whatever a call does next, the entry that it adds is legal.
 use Rattle.std.proofs.Common.{◌≡◌, ℕ, false, List, [], ◌∷◌, ◌++◌, refl, sym, ◌∙◌, subst}
 use Rattle.std.proofs.lemmas.Option.{none-some}
-use Rattle.bd_base.specs.declared.script.Call.{Call}
 use Rattle.bd_base.specs.declared.script.Call.TheVariants.{Enter, Create, Read, Write, Truncate, Unlink, Size, Map, Close, RawRead, RawWrite}
 use Rattle.bd_base.specs.declared.script.How.TheVariants as hows
 use Rattle.bd_base.specs.Bounds.{Bounds}

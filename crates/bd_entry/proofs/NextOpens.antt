@@ -1,13 +1,12 @@
 -- The next entries of opens and maps are legal: an open, a right that is attached, and the number of rights.
-use Rattle.std.proofs.Common.{◌≡◌, ◌≢◌, ◌⊎◌, inl, inr, ℕ, Bool, true, false, not, ◌&&◌, cond, List, [], ◌∷◌, length, Option, None, Some, refl, sym, ap, ◌∙◌, subst, ⊎_elim}
+use Rattle.std.proofs.Common.{◌≡◌, ℕ, Bool, true, false, not, ◌&&◌, cond, List, [], ◌∷◌, length, Option, None, Some, refl, sym, ap, ◌∙◌, subst, ⊎_elim}
 use Rattle.std.specs.Prelude.{is_some}
-use Rattle.std.specs.Option.{option_and_then, option_map, option_map_or, option_or}
+use Rattle.std.specs.Option.{option_map, option_map_or, option_or}
 use Rattle.std.specs.List.{list_any}
-use Rattle.std.proofs.lemmas.Bool.{and_parts, both_ways, false≢true, or_parts}
+use Rattle.std.proofs.lemmas.Bool.{and_parts, false≢true}
 use Rattle.std.proofs.lemmas.Option.{cond_some, none-some, same_Some}
 use Rattle.bd_base.specs.declared.reason.Reason.{Reason}
 use Rattle.bd_base.specs.declared.reason.Reason.TheVariants as reasons
-use Rattle.bd_base.specs.declared.script.Call.{Call}
 use Rattle.bd_base.specs.declared.script.Call.TheVariants.{Enter, Map}
 use Rattle.bd_base.specs.declared.script.How.{How}
 use Rattle.bd_base.specs.declared.script.How.TheVariants as hows
@@ -22,7 +21,7 @@ use Rattle.bd_entry.specs.Actions.{attach_by, attach_or_map, entry_of_act, open_
 use Rattle.bd_entry.specs.Calls.{Place, fd_of, is_end_of, is_made_by, is_opened, opened_fd}
 use Rattle.bd_entry.specs.Laws.{AreOfCall}
 use Rattle.bd_entry.specs.NextEntries.{IsLegalAt, NextIsLegal, running}
-use Rattle.bd_entry.specs.Refusals.{denial, file_of, first_refusal, reason_if}
+use Rattle.bd_entry.specs.Refusals.{denial, first_refusal, reason_if}
 use Rattle.bd_entry.specs.Rules.{Allowed, EntryRule, FitsStore, IsOpen, NoPlain, NotRefused, RightFile, Rights}
 use Rattle.bd_entry.specs.RulesOfContents.{MayBegin}
 use Rattle.bd_entry.specs.RulesOfRights.{NoRightsWherePlain}

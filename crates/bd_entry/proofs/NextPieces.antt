@@ -1,14 +1,13 @@
 -- The next entries of reads and writes are legal: the kernel's access of a piece, the growth before it, and a refused piece.
-use Rattle.std.proofs.Common.{◌≡◌, ◌≢◌, ◌⊎◌, inl, inr, ℕ, ◌+◌, ◌-◌, ◌*◌, ◌/◌, ◌<◌, ◌≤◌, min, Bool, true, false, not, ◌&&◌, ◌||◌, cond, List, [], ◌∷◌, length, Option, None, Some, refl, sym, ap, ◌∙◌, subst, arith, ⊎_elim}
-use Rattle.std.specs.Prelude.{nat_eq, nat_lt, slice_get, is_some, IsSome}
+use Rattle.std.proofs.Common.{◌≡◌, ◌⊎◌, inl, inr, ℕ, ◌+◌, ◌-◌, ◌*◌, ◌<◌, ◌≤◌, min, Bool, true, false, not, ◌||◌, cond, List, [], ◌∷◌, length, Option, None, Some, refl, sym, ap, ◌∙◌, subst, arith, ⊎_elim}
+use Rattle.std.specs.Prelude.{nat_lt, slice_get}
 use Rattle.std.specs.Option.{option_and_then, option_map, option_map_or, option_or}
-use Rattle.std.specs.List.{find, list_any}
+use Rattle.std.specs.List.{find}
 use Rattle.std.proofs.lemmas.Bool.{and_parts, both_ways, cases_lt, false≢true, lt-ltb}
 use Rattle.std.proofs.lemmas.Option.{none-some, same_Some}
 use Rattle.bd_base.specs.declared.limits.TheConstants.{BLOCK_SIZE}
 use Rattle.bd_base.specs.declared.reason.Reason.{Reason}
 use Rattle.bd_base.specs.declared.reason.Reason.TheVariants as reasons
-use Rattle.bd_base.specs.declared.script.Call.{Call}
 use Rattle.bd_base.specs.declared.script.Call.TheVariants.{Read, Write}
 use Rattle.bd_base.specs.declared.script.How.{How}
 use Rattle.bd_base.specs.declared.script.How.TheVariants as hows
@@ -17,7 +16,6 @@ use Rattle.bd_base.specs.declared.script.Mode.TheVariants.{R, Rw}
 use Rattle.bd_base.specs.declared.volume.Inode.{Inode}
 use Rattle.bd_base.specs.declared.journal.At.{At}
 use Rattle.bd_base.specs.declared.journal.Way.{Way}
-use Rattle.bd_base.specs.Bounds.{Bounds}
 use Rattle.bd_base.specs.Files.{blocks_for, limit_of}
 use Rattle.bd_base.specs.Inodes.{blocks_of_slot}
 use Rattle.bd_base.specs.Pieces.{Piece}
@@ -26,10 +24,10 @@ use Rattle.bd_entry.specs.declared.act.Act.{Act}
 use Rattle.bd_entry.specs.declared.act.Act.TheVariants as acts
 use Rattle.bd_entry.specs.declared.entry.Entry.{Entry}
 use Rattle.bd_entry.specs.declared.entry.Entry.TheVariants as entries
-use Rattle.bd_entry.specs.Actions.{Holders, Running, access_piece, busy, entry_of_act, is_none_of, kernel_bytes, kernel_entry, kernel_part, kernel_way, move_piece, piece_numbers, submit_or_poll, write_piece}
-use Rattle.bd_entry.specs.Calls.{Place, bytes_for_piece, does_write, fd_of, has_missed, is_answered, is_made_by, is_raw, named_fd, piece_end, piece_of_call, pieces_of_call}
+use Rattle.bd_entry.specs.Actions.{Holders, Running, access_piece, busy, entry_of_act, is_none_of, kernel_entry, kernel_part, kernel_way, move_piece, piece_numbers, submit_or_poll}
+use Rattle.bd_entry.specs.Calls.{Place, bytes_for_piece, does_write, fd_of, has_missed, is_answered, is_made_by, is_raw, piece_end, piece_of_call, pieces_of_call}
 use Rattle.bd_entry.specs.NextEntries.{IsLegalAt, IsReadyPlace, NextIsLegal, running}
-use Rattle.bd_entry.specs.Refusals.{descriptor_of, file_of, first_refusal, goal_of, goes_direct, growth_reason_of, is_for_kernel, is_next_for_kernel, is_read_only, next_size, piece_refusal, reason_if}
+use Rattle.bd_entry.specs.Refusals.{descriptor_of, first_refusal, goes_direct, growth_reason_of, is_for_kernel, is_next_for_kernel, is_read_only, next_size, reason_if}
 use Rattle.bd_entry.specs.Rules.{Allowed, EntryRule, FitsStore, IsOpen, NotRefused, RightBlock, RightBytes, RightFile, RightWay, Rights, WithinLimit}
 use Rattle.bd_entry.specs.RulesOfContents.{EndsWithin, IsContent, MayBegin, bytes_within}
 use Rattle.bd_entry.specs.RulesOfRights.{HasRightToAccess, IsWay, IsWayBy, MayWrite, RawOrNot, ThePiece, WentToKernel}

@@ -1,6 +1,6 @@
 -- The running calls of legal journals are ready for what they do next.
-use Rattle.std.proofs.Common.{◌≡◌, ◌≢◌, ◌⊎◌, ℕ, Bool, true, false, not, ◌||◌, List, [], ◌∷◌, ◌++◌, Option, None, Some, refl, sym, ap, ◌∙◌, subst, ⊎_elim}
-use Rattle.std.specs.Prelude.{nat_eq, nat_lt}
+use Rattle.std.proofs.Common.{◌≡◌, ◌≢◌, ℕ, Bool, true, false, not, ◌||◌, List, [], ◌∷◌, ◌++◌, Option, None, Some, refl, sym, ap, ◌∙◌, subst, ⊎_elim}
+use Rattle.std.specs.Prelude.{nat_lt}
 use Rattle.std.specs.Option.{option_and_then, option_map_or, option_or}
 use Rattle.std.specs.List.{list_any}
 use Rattle.std.proofs.lemmas.Bool.{both_ways, eqb-true, false_from_ne_true, false≢true, or_cases, or_left, or_right}
@@ -10,7 +10,7 @@ use Rattle.bd_base.specs.declared.limits.TheConstants.{FILE_SIZE}
 use Rattle.bd_base.specs.declared.reason.Reason.{Reason}
 use Rattle.bd_base.specs.declared.reason.Reason.TheVariants as reasons
 use Rattle.bd_base.specs.declared.script.Call.{Call}
-use Rattle.bd_base.specs.declared.script.Call.TheVariants.{Enter, Create, Read, Write, Truncate, Unlink, Size, Map, Close, RawRead, RawWrite}
+use Rattle.bd_base.specs.declared.script.Call.TheVariants.{Enter, Read, Write, Truncate, Unlink, Close, RawRead, RawWrite}
 use Rattle.bd_base.specs.declared.script.How.{How}
 use Rattle.bd_base.specs.declared.script.How.TheVariants as hows
 use Rattle.bd_base.specs.declared.script.Mode.{Mode}
@@ -30,7 +30,7 @@ use Rattle.bd_entry.specs.Refusals.{descriptor_of, descriptor_refusal, first_ref
 use Rattle.bd_entry.specs.Rules.{IsOpen, NextCall, NotRefused, RightWay, place_in}
 use Rattle.bd_entry.specs.RulesOfCalls.{IsNextCall}
 use Rattle.bd_entry.specs.RulesOfRights.{HasRightDescriptor, HasRightWay, RawOrNot, TheDescriptor, ThePiece, WentDirect}
-use Rattle.bd_entry.specs.Store.{Descriptor, Store, descriptor_at, is_plain, start_store, work_of}
+use Rattle.bd_entry.specs.Store.{Descriptor, Store, descriptor_at, is_plain, work_of}
 use Rattle.bd_entry.proofs.Accesses.{of_call-in_store}
 use Rattle.bd_entry.proofs.CallOrder.{is_finished-called, start_of}
 use Rattle.bd_entry.proofs.DescriptorSteps.{after_call-cases, after_change-becomes, after_telling-cases, is_close}

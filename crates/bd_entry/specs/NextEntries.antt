@@ -1,20 +1,15 @@
 -- That what a call does next is legal: each law is the contract of a function of src/next_laws.rt.
-use Rattle.std.specs.Prelude.{◌≡◌, ◌≢◌, ℕ, nat_eq, Bool, true, false, List, [], Option, None, Some, IsSome}
+use Rattle.std.specs.Prelude.{◌≡◌, ◌≢◌, ℕ, nat_eq, Bool, true, false, List, [], None, Some, IsSome}
 use Rattle.std.specs.List.{list_any}
 use Rattle.bd_base.specs.declared.script.Call.{Call}
-use Rattle.bd_base.specs.declared.script.Call.TheVariants.{Enter, Create, Read, Write, Truncate, Unlink, Size, Map, Close, RawRead, RawWrite}
-use Rattle.bd_base.specs.declared.script.How.{How}
+use Rattle.bd_base.specs.declared.script.Call.TheVariants.{Enter, Write, Truncate, Unlink, Close}
 use Rattle.bd_base.specs.declared.script.How.TheVariants as hows
-use Rattle.bd_base.specs.declared.script.Mode.{Mode}
-use Rattle.bd_base.specs.declared.reason.Reason.{Reason}
 use Rattle.bd_base.specs.declared.script.Script.{Script}
 use Rattle.bd_base.specs.declared.volume.Volume.{Volume}
 use Rattle.bd_base.specs.declared.journal.At.{At}
-use Rattle.bd_base.specs.Bounds.{Bounds}
 use Rattle.bd_base.specs.Pieces.{Piece}
 use Rattle.bd_base.specs.Scripts.{IsCall}
 use Rattle.bd_entry.specs.declared.act.Act.{Act}
-use Rattle.bd_entry.specs.declared.act.Act.TheVariants as acts
 use Rattle.bd_entry.specs.declared.entry.Entry.{Entry}
 use Rattle.bd_entry.specs.Actions.{Holders, Running, entry_of_act, next_act}
 use Rattle.bd_entry.specs.Calls.{Place, at_of, call_at, has_missed, is_ended_by, piece_of_call}
