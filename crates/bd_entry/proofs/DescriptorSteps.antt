@@ -78,10 +78,11 @@ change-here s p f change =
 
 -- ---- the own change of an entry
 
--- a descriptor keeps its file, its mode and its sizes
+-- a descriptor keeps its file, its mode, its way and its sizes
 pub record Keeps (d new : Descriptor) : Type 0 where
   pub file : new.file ≡ d.file
   pub mode : new.mode ≡ d.mode
+  pub how : new.how ≡ d.how
   pub known : new.known ≡ d.known
   pub told : new.told ≡ d.told
 
@@ -89,7 +90,7 @@ pub record Keeps (d new : Descriptor) : Type 0 where
 abbrev pub KeepsEach : (Descriptor → Descriptor) → Type 0
 KeepsEach change = (d : Descriptor) → Keeps d (change d)
 
--- what stands in a slot is what stood there, with its file, mode and sizes kept
+-- what stands in a slot is what stood there, with its file, mode, way and sizes kept
 abbrev pub Stays : Option Descriptor → Option Descriptor → Type 0
 Stays old slot = (change : Descriptor → Descriptor) × KeepsEach change × (slot ≡ option_map change old)
 
@@ -111,8 +112,8 @@ abbrev pub Becomes : Entry → ℕ → Option Descriptor → Option Descriptor �
 Becomes e process old slot = Stays old slot ⊎ (IsNew old slot ⊎ IsGone e process slot)
 
 same_slot : (old slot : Option Descriptor) → slot ≡ old → Stays old slot
-same_slot None slot same = (λ d. d, λ d. record { file = refl; mode = refl; known = refl; told = refl }, same)
-same_slot (Some d) slot same = (λ d. d, λ d. record { file = refl; mode = refl; known = refl; told = refl }, same)
+same_slot None slot same = (λ d. d, λ d. record { file = refl; mode = refl; how = refl; known = refl; told = refl }, same)
+same_slot (Some d) slot same = (λ d. d, λ d. record { file = refl; mode = refl; how = refl; known = refl; told = refl }, same)
 
 changed_slot : (s : Store) (p f : ℕ) (change : Descriptor → Descriptor) → KeepsEach change → (process fd : ℕ) →
     Stays (descriptor_at s process fd) (descriptor_at (with_descriptor s p f change) process fd)
@@ -160,11 +161,11 @@ after_change-becomes s call (Opened at file f mode how) lowest process fd =
     inr (inl (here ∙ lowest_fd-free s at.process f lowest, (opened, new.2, refl))))
     (slot-set_cases s at.process f (new_descriptor e) process fd)
 after_change-becomes s call (Attached at f part) fits process fd =
-    inl (changed_slot s at.process f (attach part) (λ d. record { file = refl; mode = refl; known = refl; told = refl }) process fd)
+    inl (changed_slot s at.process f (attach part) (λ d. record { file = refl; mode = refl; how = refl; known = refl; told = refl }) process fd)
 after_change-becomes s call (Cleared at owner f part) fits process fd =
-    inl (changed_slot s owner f (clear part) (λ d. record { file = refl; mode = refl; known = refl; told = refl }) process fd)
+    inl (changed_slot s owner f (clear part) (λ d. record { file = refl; mode = refl; how = refl; known = refl; told = refl }) process fd)
 after_change-becomes s call (Detached at owner f part) fits process fd =
-    inl (changed_slot s owner f (detach part) (λ d. record { file = refl; mode = refl; known = refl; told = refl }) process fd)
+    inl (changed_slot s owner f (detach part) (λ d. record { file = refl; mode = refl; how = refl; known = refl; told = refl }) process fd)
 after_change-becomes s call (Closed at f) fits process fd =
     let e = Closed at f in
     ⊎_elim

@@ -90,7 +90,7 @@ record KnowsWhatTold (script : Script) (before : List Entry) (s : Store) : Type 
   pub known : (process fd : ℕ) (d : Descriptor) → descriptor_at s process fd ≡ Some d → (d.known ≡ d.told) ⊎ IsRunningBy script before s process fd
 
 -- the entries of a call that goes on are those before, and the new one
-work-grown : (v : Volume) (script : Script) (before : List Entry) (s : Store) (call : Call) (e : Entry) → IsNextOf v script before s call e →
+pub work-grown : (v : Volume) (script : Script) (before : List Entry) (s : Store) (call : Call) (e : Entry) → IsNextOf v script before s call e →
     is_ended_by call (work_of s (at_of e).process ++ e ∷ []) ≡ false →
     work_of (effect_of s (place_in s call (at_of e)) e) (at_of e).process ≡ work_of s (at_of e).process ++ e ∷ []
 work-grown v script before s call e next running =

@@ -36,6 +36,14 @@ pub mod WriteModes
 pub mod KeptFiles
 pub mod SlotTests
 pub mod PairsInUse
+pub mod NextActs
+pub mod NextCalls
+pub mod NextOpens
+pub mod NextCloses
+pub mod NextFiles
+pub mod NextPieces
+pub mod NextEntries
+pub mod NextReady
 mod BadLines
 mod Fields
 mod FirstWords

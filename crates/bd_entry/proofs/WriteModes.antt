@@ -48,11 +48,11 @@ abbrev MayWriteAt : Store → ℕ → ℕ → Type 0
 MayWriteAt s process fd = TheDescriptor (descriptor_at s process fd) (λ d. d.mode ≡ Rw)
 
 -- what holds of an open descriptor holds after a change that keeps it
-TheDescriptor-map : (P : Descriptor → Type 0) (change : Descriptor → Descriptor) → ((d : Descriptor) → P d → P (change d)) →
+pub TheDescriptor-map : (P : Descriptor → Type 0) (change : Descriptor → Descriptor) → ((d : Descriptor) → P d → P (change d)) →
     (old slot : Option Descriptor) → slot ≡ option_map change old → TheDescriptor old P → TheDescriptor slot P
 TheDescriptor-map P change keeps old slot is holds = (change holds.0, is ∙ ap (option_map change) holds.1, keeps holds.0 holds.2)
 
-TheDescriptor-same : (P : Descriptor → Type 0) (old slot : Option Descriptor) → slot ≡ old → TheDescriptor old P → TheDescriptor slot P
+pub TheDescriptor-same : (P : Descriptor → Type 0) (old slot : Option Descriptor) → slot ≡ old → TheDescriptor old P → TheDescriptor slot P
 TheDescriptor-same P old slot same holds = (holds.0, same ∙ holds.1, holds.2)
 
 -- an entry that does not close it leaves an open descriptor with its mode
@@ -87,7 +87,7 @@ mode_stays s call e fits process fd stays may =
 -- ---- how a write begins
 
 -- a call of which an entry tells that is no refusal of it began without one
-begins_allowed : (s : Store) (p : Place) (e : Entry) → HasRightReason s p e → is_whole_refusal e ≡ false → p.before ≡ [] →
+pub begins_allowed : (s : Store) (p : Place) (e : Entry) → HasRightReason s p e → is_whole_refusal e ≡ false → p.before ≡ [] →
     first_refusal s p.at.process p.call ≡ None
 begins_allowed s p (Extended at file to block) reason whole none = reason.0 none
 begins_allowed s p (Refused at None why) reason whole none = absurd (false≢true (sym whole))

@@ -11,6 +11,7 @@ pub mod Rules
 pub mod History
 pub mod Laws
 pub mod Promises
+pub mod NextEntries
 pub mod Ranges
 pub mod Reading
 pub mod Texts

@@ -6,6 +6,7 @@ mod entry;
 mod error;
 pub mod laws;
 mod limits;
+pub mod next_laws;
 mod print;
 pub mod promises;
 mod read;
