@@ -10,3 +10,5 @@ pub mod KernelPieces
 pub mod NextParts
 pub mod KeyLists
 pub mod Acts
+pub mod CallEnds
+pub mod CallsWithoutEntries

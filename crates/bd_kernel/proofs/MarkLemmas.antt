@@ -12,6 +12,7 @@ use Rattle.bd_entry.specs.declared.entry.Entry.{Entry}
 use Rattle.bd_entry.specs.declared.entry.Entry.TheVariants.{Access, Attached, Cleared, Closed, Created, Detached, Extended, Mapped, Missed, Opened, Refused, Released, SizeRead, Sized, Unlinked}
 use Rattle.bd_entry.specs.Calls.{has_cleared, has_missed, is_answer_of, is_answered, is_clear_of, is_miss_of, opened_fd}
 use Rattle.bd_kernel.specs.Marks.{AreMarksOf, HasKeyOf, HasPieceOf, HasRoom, IsKey, Marks, is_marked, noted, number_of_key}
+use Rattle.bd_kernel.specs.Turns.{ArePieceMarksOf}
 
 or-false : (b : Bool) → (b || false) ≡ b
 or-false true = refl
@@ -195,3 +196,9 @@ noted-marks m entries (Refused at None reason) room piece key marks =
 noted-marks m entries (Refused at (Some piece) reason) room within key marks =
     answering m entries (Refused at (Some piece) reason) marks piece (omega (arith, room.answered, within)) refl (λ q. refl) (λ q. refl)
     (λ p f k. refl)
+
+-- the marks of pieces are those of the entries, also where some commands are outstanding
+pub pieces_marked : (m : Marks) (outstanding : List ℕ) (entries : List Entry) → AreMarksOf m entries →
+    ArePieceMarksOf m outstanding entries
+pieces_marked m outstanding entries marks =
+    record { answered = λ piece other. marks.answered piece; missed = λ piece other. marks.missed piece }

@@ -1,5 +1,6 @@
 -- The words of the contracts of kernel calls.
 pub mod PartMarks
+pub mod Kinds
 pub mod Changes
 pub mod Marks
 pub mod Sights

@@ -1,5 +1,5 @@
 -- What a running call keeps of its entries and of its commands.
-use Rattle.std.specs.Prelude.{◌≡◌, ℕ, ◌<◌, ◌≤◌, Bool, true, false, ◌&&◌, nat_eq, nat_lt, Option, None, Some, List, [], length}
+use Rattle.std.specs.Prelude.{◌≡◌, ℕ, ◌<◌, ◌≤◌, Bool, true, false, ◌&&◌, nat_eq, Option, None, Some, List, [], ◌∷◌, ◌++◌, length}
 use Rattle.std.specs.List.{list_any}
 use Rattle.bd_base.specs.declared.limits.TheConstants.{PIECES}
 use Rattle.bd_base.specs.declared.script.Call.{Call}
@@ -7,12 +7,12 @@ use Rattle.bd_base.specs.Scripts.{IsCall}
 use Rattle.bd_entry.specs.declared.act.Act.{Act}
 use Rattle.bd_entry.specs.declared.entry.Entry.{Entry}
 use Rattle.bd_entry.specs.Actions.{Running, is_for_device, is_untouched, next_act}
-use Rattle.bd_entry.specs.Calls.{has_missed, is_answered, opened_fd}
+use Rattle.bd_entry.specs.Calls.{has_missed, is_answered, is_ended_by}
 use Rattle.bd_entry.specs.Store.{Store, user_of}
 use Rattle.bd_fs.specs.Files.{Files}
 use Rattle.bd_kernel.specs.Changes.{Rows}
 use Rattle.bd_kernel.specs.Holders.{Table, holder_in}
-use Rattle.bd_kernel.specs.Marks.{Marks, is_marked}
+use Rattle.bd_kernel.specs.Marks.{AreMarksOf, Marks, is_marked}
 use Rattle.bd_kernel.specs.Sights.{InStore, place_of}
 
 -- whether the number is among these
@@ -28,22 +28,21 @@ pub record ArePieceMarksOf (m : Marks) (outstanding : List ℕ) (entries : List 
 abbrev pub may_submit : Store → Running → ℕ → Bool
 may_submit s r number = is_for_device s r.place number && is_untouched r number
 
--- a call of a process with this user, marks of its entries so far, the pieces whose commands are outstanding, and
--- whether its last action was carried out
+-- a call of a process with this user, marks of its entries so far, the pieces whose commands are outstanding, the oldest
+-- first, and whether its entries end it
 pub record Progress : Type 0 where
   pub call : Call
   pub process : ℕ
   pub uid : ℕ
   pub marks : Marks
   pub outstanding : List ℕ
-  pub ended : Bool
+  pub finished : Bool
 
--- these may be the entries of the call so far: where it began by an entry or has a command, it has begun; and the marks
--- are those of the entries, but for the pieces whose commands are outstanding
+-- these may be the entries of the call so far: the marks are those of the entries, and they end the call exactly where
+-- that is kept
 pub record AreEntriesOf (c : Progress) (entries : List Entry) : Type 0 where
-  pub begun : c.outstanding ≡ [] → c.marks.begun ≡ nat_lt 0 (length entries)
-  pub opened : c.marks.opened ≡ opened_fd entries
-  pub pieces : ArePieceMarksOf c.marks c.outstanding entries
+  pub marks : AreMarksOf c.marks entries
+  pub finished : c.finished ≡ is_ended_by c.call entries
 
 -- the answer is the next action of the call in each store of these files and descriptors where its process has its
 -- user, whatever its entries so far may be
@@ -58,3 +57,15 @@ IsNextAct fs table c answer =
 pub record IsProgress (c : Progress) : Type 0 where
   pub call : IsCall c.call
   pub few : length c.outstanding ≤ PIECES
+
+-- it is the same call of the same process with the same user
+pub record IsSameCall (old new : Progress) : Type 0 where
+  pub call : new.call ≡ old.call
+  pub process : new.process ≡ old.process
+  pub uid : new.uid ≡ old.uid
+
+-- the entry joins those of the call, which had not ended it
+abbrev pub Takes : Progress → Entry → Progress → Type 0
+Takes old e new =
+    (before : List Entry) → AreEntriesOf old before → is_ended_by old.call before ≡ false →
+    AreEntriesOf new (before ++ e ∷ [])

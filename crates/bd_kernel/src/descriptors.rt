@@ -2,12 +2,14 @@
 ghost use Rattle.std.specs.Prelude.{◌≡◌, ◌<◌, ◌≤◌, ℕ, None, Some, IfOk, IfSome, length, position, replicate, slice_set};
 ghost use Rattle.std.specs.Option.{option_copied};
 ghost use Rattle.bd_base.specs.declared.limits.TheConstants.{DESCRIPTORS, PROCESSES};
-ghost use Rattle.bd_kernel.specs.Changes.{slot_at};
+ghost use Rattle.bd_kernel.specs.Changes.{CanFollow, changed, changed_rows, rows_after, slot_at};
+ghost use Rattle.bd_kernel.specs.declared.descriptor.Change.TheVariants.{Know, Tell};
 ghost use Rattle.bd_kernel.specs.Holders.{does_hold, holder_in};
 
 use crate::descriptor::Descriptor;
 use crate::table::DescriptorTable;
 use bd_base::{FileId, OutOfMemory, Pid};
+use bd_entry::Entry;
 use std::alloc::Global;
 use std::marker::Model;
 
@@ -57,6 +59,28 @@ impl Descriptors {
         ensures { option_copied result ≡ slot_at self.now.rows process fd }
     {
         self.table.get(process, fd)
+    }
+
+    /// An entry's own change of the descriptors.
+    pub fn follow(&mut self, entry: &Entry)
+        requires { CanFollow self.old.rows entry.now }
+        ensures { self.new ≡ record self.old { rows = rows_after self.old.rows entry.now } }
+    {
+        self.table.follow(entry);
+    }
+
+    /// The process of the descriptor, if it is open, is told this size.
+    pub fn tell(&mut self, process: Pid, fd: u8, size: u64)
+        ensures { self.new ≡ record self.old { rows = changed_rows self.old.rows process fd (changed (Tell size)) } }
+    {
+        self.table.tell(process, fd, size);
+    }
+
+    /// The process of the descriptor, if it is open, knows the size that it was told.
+    pub fn know(&mut self, process: Pid, fd: u8)
+        ensures { self.new ≡ record self.old { rows = changed_rows self.old.rows process fd (changed Know) } }
+    {
+        self.table.know(process, fd);
     }
 
     /// Who holds the file.

@@ -1,5 +1,5 @@
 //! A running call of a process, and the action that it needs next.
-ghost use Rattle.std.specs.Prelude.{◌≡◌, ℕ, ◌<◌, ◌++◌, ◌∷◌, [], None, cond, true, false, IfOk, List, Some, drop, length, slice_set};
+ghost use Rattle.std.specs.Prelude.{◌≡◌, ℕ, ◌<◌, ◌++◌, ◌∷◌, ◌&&◌, [], None, cond, true, false, IfOk, List, Some, drop, length, nat_eq};
 ghost use Rattle.std.specs.Option.{option_or};
 ghost use Rattle.bd_entry.specs.declared.entry.Entry.{Entry};
 ghost use Rattle.bd_base.specs.Scripts.{IsCall};
@@ -8,11 +8,13 @@ ghost use Rattle.bd_entry.specs.Actions.{before_beginning, has_begun, keys_to_re
 ghost use Rattle.bd_entry.specs.Refusals.{first_refusal};
 ghost use Rattle.bd_entry.specs.Store.{user_of};
 ghost use Rattle.bd_kernel.specs.Holders.{holder_in};
-ghost use Rattle.bd_kernel.specs.Marks.{AreMarksOf};
+ghost use Rattle.bd_kernel.specs.Marks.{HasPieceOf};
 ghost use Rattle.bd_kernel.specs.Sights.{AtPlace, place_of};
-ghost use Rattle.bd_kernel.specs.Turns.{ArePieceMarksOf, AreEntriesOf, IsNextAct};
+ghost use Rattle.bd_entry.specs.Calls.{fd_of_call};
+ghost use Rattle.bd_kernel.specs.Turns.{ArePieceMarksOf, AreEntriesOf, IsNextAct, IsSameCall, Takes};
 
 use crate::beginning::before_beginning;
+use crate::calls::fd_of_call;
 use crate::descriptors::Descriptors;
 use crate::files::{attach_by, open_directly, open_file, tell_size, truncate, unlink};
 use crate::outstanding::Outstanding;
@@ -21,7 +23,7 @@ use crate::refusals::first_refusal;
 use crate::revocation::{keys_to_revoke, revoke};
 use crate::running_call::RunningCall;
 use bd_base::{Call, How, OutOfMemory, Pid};
-use bd_entry::Act;
+use bd_entry::{Act, Entry};
 use bd_fs::Fs;
 use std::alloc::Global;
 use std::marker::Model;
@@ -35,8 +37,8 @@ pub struct KernelCall {
     running: RunningCall,
     // The pieces whose commands are submitted and not polled.
     outstanding: Outstanding,
-    // Whether its last action was carried out.
-    ended: bool,
+    // Whether its entries end it.
+    finished: bool,
 }
 
 impl Model for KernelCall {
@@ -50,7 +52,7 @@ impl Model for KernelCall {
       uid = a.uid;
       marks = a.running;
       outstanding = a.outstanding;
-      ended = a.ended;
+      finished = a.finished;
     } };
 
     ghost invariant = { λ a. IsProgress (record {
@@ -59,7 +61,7 @@ impl Model for KernelCall {
       uid = a.uid;
       marks = a.running;
       outstanding = a.outstanding;
-      ended = a.ended;
+      finished = a.finished;
     }) };
 }
 
@@ -226,7 +228,7 @@ impl KernelCall {
         ensures user { IfOk result (λ c. c.uid ≡ uid) }
         ensures entries { IfOk result (λ c. AreEntriesOf c []) }
         ensures outstanding { IfOk result (λ c. c.outstanding ≡ []) }
-        ensures runs { IfOk result (λ c. c.ended ≡ false) }
+        ensures runs { IfOk result (λ c. c.finished ≡ false) }
     {
         let copy = copy_call(alloc, call)?;
         let running = RunningCall::new(alloc)?;
@@ -236,7 +238,7 @@ impl KernelCall {
             uid,
             running,
             outstanding: Outstanding::new(),
-            ended: false,
+            finished: false,
         })
     }
 
@@ -281,10 +283,52 @@ impl KernelCall {
         )
     }
 
-    /// Whether the call's last action was carried out.
-    pub fn ended(&self) -> bool
-        ensures { result ≡ self.now.ended }
+    /// Takes note of an entry that was added in its name: by its processor, by its device engine, or by the invalidation
+    /// engine.
+    pub fn note(&mut self, entry: &Entry)
+        requires { HasPieceOf entry.now }
+        ensures same { IsSameCall self.old self.new }
+        ensures commands { self.new.outstanding ≡ self.old.outstanding }
+        ensures entry { Takes self.old entry.now self.new }
     {
-        self.ended
+        self.running.note(entry);
+        self.finished = self.running.is_ended_by(&self.call, entry);
+    }
+
+    /// The command of this piece was submitted.
+    pub fn submitted(&mut self, piece: u8)
+        requires { length self.old.outstanding < PIECES }
+        ensures { self.new ≡ record self.old { outstanding = self.old.outstanding ++ piece ∷ [] } }
+    {
+        self.outstanding.push(piece);
+    }
+
+    /// The completion of the oldest command was taken.
+    pub fn polled(&mut self)
+        requires { 0 < length self.old.outstanding }
+        ensures { self.new ≡ record self.old { outstanding = drop 1 self.old.outstanding } }
+    {
+        self.outstanding.pop_front();
+    }
+
+    /// Whether the entries of the call end it.
+    pub fn finished(&self) -> bool
+        ensures { result ≡ self.now.finished }
+    {
+        self.finished
+    }
+
+    /// Whether the call's last action was carried out: its entries end it, and no command of it is outstanding.
+    pub fn ended(&self) -> bool
+        ensures { result ≡ (self.now.finished && nat_eq (length self.now.outstanding) 0) }
+    {
+        self.finished && self.outstanding.is_empty()
+    }
+
+    /// The descriptor of the call: the one that an open opened, that of a raw command's address, or the one named.
+    pub fn fd(&self) -> Option<u8>
+        ensures { (before : List Entry) → AreEntriesOf self.now before → result ≡ fd_of_call self.now.call before }
+    {
+        fd_of_call(&self.call, self.running.opened())
     }
 }

@@ -5,6 +5,7 @@ mod beginning;
 mod calls;
 mod descriptor;
 mod descriptors;
+mod ends;
 mod files;
 mod kernel_call;
 mod marks;
@@ -24,6 +25,7 @@ pub use calls::{
 };
 pub use descriptor::{Change, Descriptor};
 pub use descriptors::Descriptors;
+pub use ends::{is_end_of, is_of_piece, is_whole_refusal, tells_size};
 pub use kernel_call::KernelCall;
 pub use part_set::PartSet;
 pub use place::{

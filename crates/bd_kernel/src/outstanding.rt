@@ -1,5 +1,5 @@
 //! The pieces of a call whose commands are submitted and not polled.
-ghost use Rattle.std.specs.Prelude.{◌≡◌, ◌<◌, [], ◌∷◌, ◌++◌, length, nat_eq};
+ghost use Rattle.std.specs.Prelude.{◌≡◌, ◌<◌, [], ◌∷◌, ◌++◌, drop, length, nat_eq};
 ghost use Rattle.bd_base.specs.declared.limits.TheConstants.{PIECES};
 
 use bd_base::PIECES;
@@ -36,6 +36,24 @@ impl Outstanding {
             numbers: [0; PIECE_COUNT],
             count: 0,
         }
+    }
+
+    /// The command of this piece is submitted.
+    pub(crate) fn push(&mut self, piece: u8)
+        requires { length self.old < PIECES }
+        ensures { self.new ≡ self.old ++ piece ∷ [] }
+    {
+        self.numbers[self.count] = piece;
+        self.count += 1;
+    }
+
+    /// The completion of the oldest command is polled.
+    pub(crate) fn pop_front(&mut self)
+        requires { 0 < length self.old }
+        ensures { self.new ≡ drop 1 self.old }
+    {
+        self.numbers.copy_within(1..self.count, 0);
+        self.count -= 1;
     }
 
     /// Whether there is none.

@@ -7,11 +7,12 @@ ghost use Rattle.bd_entry.specs.Actions.{keys_by, keys_of_slot, keys_on};
 ghost use Rattle.bd_entry.specs.Effects.{attach, clear, detach};
 ghost use Rattle.bd_kernel.specs.Sights.{bare, no_files};
 ghost use Rattle.bd_entry.specs.Store.{first_holder, has_part, is_attached_of, is_empty_slot, is_open_of, is_plain_of, pairs_of_slot, same_pair};
-ghost use Rattle.bd_kernel.specs.Changes.{changed, changed_rows, has_right, pairs_of_rows, rows_with_slot, slot_at, uses_pair};
+ghost use Rattle.bd_kernel.specs.Changes.{CanFollow, changed, changed_rows, has_right, pairs_of_rows, rows_after, rows_with_slot, slot_at, uses_pair};
 ghost use Rattle.bd_kernel.specs.declared.descriptor.Change.TheVariants.{Know, Tell};
 
 use crate::descriptor::{Change, Descriptor};
 use crate::row::Row;
+use bd_entry::Entry;
 use bd_base::{FILES, FRAGMENTS, Fd, FileId, KeyList, OutOfMemory, PARTS, Part, Pid};
 use std::alloc::Global;
 use std::marker::Model;
@@ -161,6 +162,46 @@ impl DescriptorTable {
         ensures { self.new ≡ rows_with_slot self.old process fd slot }
     {
         self.rows[process.get() as usize].put(fd, slot);
+    }
+
+    /// An entry's own change of the descriptors.
+    pub fn follow(&mut self, entry: &Entry)
+        requires { CanFollow self.old entry.now }
+        ensures { self.new ≡ rows_after self.old entry.now }
+    {
+        match entry {
+            Entry::Opened {
+                at,
+                file,
+                fd,
+                mode,
+                how,
+            } => self.put(at.process, *fd, Some(Descriptor::new(*file, *mode, *how))),
+            Entry::Attached { at, fd, part } => self.attach(at.process, *fd, *part),
+            Entry::Cleared {
+                owner,
+                fd,
+                part,
+                ..
+            } => self.clear(*owner, *fd, *part),
+            Entry::Detached {
+                owner,
+                fd,
+                part,
+                ..
+            } => self.detach(*owner, *fd, *part),
+            Entry::Closed { at, fd } => self.put(at.process, *fd, None),
+            Entry::Created { .. }
+            | Entry::Mapped { .. }
+            | Entry::Access { .. }
+            | Entry::Missed { .. }
+            | Entry::Extended { .. }
+            | Entry::Released { .. }
+            | Entry::Sized { .. }
+            | Entry::SizeRead { .. }
+            | Entry::Unlinked { .. }
+            | Entry::Refused { .. } => {}
+        }
     }
 
     /// The descriptor, which is open, gets a right on the part.

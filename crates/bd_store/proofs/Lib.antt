@@ -9,7 +9,6 @@ pub mod OpenDescriptors
 pub mod OneVerdict
 pub mod StartStores
 pub mod ReadyChanges
-pub mod CallEnds
 pub mod KeptSteps
 pub mod Starts
 pub mod Applies

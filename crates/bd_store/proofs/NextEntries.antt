@@ -4,17 +4,13 @@ use Rattle.std.specs.Prelude.{IfSome, nat_eq, slice_index, slice_set}
 use Rattle.std.specs.Option.{option_map_or}
 use Rattle.std.proofs.lemmas.Bool.{and_right, both_ways, cases_eq, cases_order, ne_eqb}
 use Rattle.std.proofs.lemmas.List.{get_or-set_other, get_or-set_same, length-set}
-use Rattle.std.proofs.lemmas.List.FromFn.{length-map-range_with_len}
 use Rattle.std.proofs.lemmas.Option.{MatchOption-at_some, slice_get_within}
 use Rattle.bd_base.specs.declared.journal.At.{At}
-use Rattle.bd_base.specs.declared.limits.TheConstants.{BLOCK_SIZE}
 use Rattle.bd_base.specs.declared.script.Call.{Call}
-use Rattle.bd_base.specs.declared.script.Call.TheVariants.{Read, Write}
 use Rattle.bd_base.specs.declared.script.Script.{Script}
-use Rattle.bd_base.specs.Pieces.{piece_at}
-use Rattle.bd_base.specs.Scripts.{IsCall, IsWithinLimits}
+use Rattle.bd_base.specs.Scripts.{IsWithinLimits}
 use Rattle.bd_entry.specs.declared.entry.Entry.{Entry}
-use Rattle.bd_entry.specs.Calls.{at_of, call_at, calls_of, entries_of, is_answered, is_ended_by, is_finished, same_call}
+use Rattle.bd_entry.specs.Calls.{at_of, call_at, calls_of, entries_of, is_ended_by, is_finished, same_call}
 use Rattle.bd_entry.specs.Rules.{Allowed, BreaksRule, EntryRule, FitsCall, FitsScript, FitsStore, IsOpen, KeepsRule, NextCall, NoPlain, NotRefused, Once, RightBlock, RightBytes, RightFile, RightWay, Rights, WithinLimit, entry_rule_number, place_in}
 use Rattle.bd_entry.specs.RulesOfCalls.{IsFirstOfKind, IsNextCall, IsOfCall}
 use Rattle.bd_entry.specs.Store.{Store}
@@ -23,29 +19,9 @@ use Rattle.bd_entry.proofs.HistoryLaws.{IsLed, is_call, process_there}
 use Rattle.bd_store.specs.Kept.{BreaksAt, Kept, Represents, marks_at}
 use Rattle.bd_kernel.specs.Marks.{AreMarksOf, Marks}
 use Rattle.bd_store.specs.Verdicts.{AreFinished}
-use Rattle.bd_kernel.proofs.MarkRanges.{one_fails}
+use Rattle.bd_kernel.proofs.CallsWithoutEntries.{not_ended}
 
 -- ---- calls without entries
-
--- some piece of a byte range is not answered by no entries
-range_not_answered : (off len : ℕ) → 1 ≤ len → let count = (off + len - 1) / BLOCK_SIZE + 1 - off / BLOCK_SIZE in 0 < count
-range_not_answered off len some = omega arith
-
--- no entries do not end a call
-not_ended : (call : Call) → IsCall call → is_ended_by call [] ≡ false
-not_ended (Read fd off len) within =
-    let some : 1 ≤ len = within.2 in
-    let count = (off + len - 1) / BLOCK_SIZE + 1 - off / BLOCK_SIZE in
-    let all = length-map-range_with_len (piece_at off len) (off / BLOCK_SIZE) count in
-    let more : 0 < count = range_not_answered off len some in
-    one_fails (λ number. is_answered number []) 0 _ 0 (omega arith) (omega (arith, all)) refl
-not_ended (Write fd off bytes) within =
-    let some : 1 ≤ length bytes = within.2.1 in
-    let count = (off + length bytes - 1) / BLOCK_SIZE + 1 - off / BLOCK_SIZE in
-    let all = length-map-range_with_len (piece_at off (length bytes)) (off / BLOCK_SIZE) count in
-    let more : 0 < count = range_not_answered off (length bytes) some in
-    one_fails (λ number. is_answered number []) 0 _ 0 (omega arith) (omega (arith, all)) refl
-not_ended call within = refl
 
 -- a call without entries is unfinished
 pub unfinished_without : (script : Script) (journal : List Entry) (at : At) → IsWithinLimits script → entries_of at journal ≡ [] →

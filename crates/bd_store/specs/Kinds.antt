@@ -1,40 +1,17 @@
 -- Kinds of entries.
 use Rattle.std.specs.Prelude.{◌≡◌, ℕ, Bool, true, false, Option, None, Some, List, slice_get}
 use Rattle.bd_base.specs.declared.script.Call.{Call}
-use Rattle.bd_base.specs.declared.script.Call.TheVariants.{Read, Write}
 use Rattle.bd_base.specs.declared.volume.Inode.{Inode}
 use Rattle.bd_base.specs.Inodes.{blocks_of_slot, inode_at}
 use Rattle.bd_entry.specs.declared.entry.Entry.{Entry}
-use Rattle.bd_entry.specs.declared.entry.Entry.TheVariants.{Access, Cleared, Detached, Missed, Refused}
+use Rattle.bd_entry.specs.declared.entry.Entry.TheVariants.{Access, Cleared, Detached, Refused}
 use Rattle.bd_entry.specs.Calls.{piece_of_call}
-
--- whether the entry refuses its whole call
-abbrev pub is_whole_refusal : Entry → Bool
-is_whole_refusal (Refused at None reason) = true
-is_whole_refusal entry = false
-
--- whether the entry refuses a piece
-abbrev pub is_piece_refusal : Entry → Bool
-is_piece_refusal (Refused at (Some piece) reason) = true
-is_piece_refusal entry = false
-
--- whether the entry tells what became of the walk of a piece: its access, or its miss
-abbrev pub is_of_piece : Entry → Bool
-is_of_piece (Access at piece fd file index block range wrote way bytes) = true
-is_of_piece (Missed at piece found) = true
-is_of_piece entry = false
 
 -- whether the entry tells that a right is cleared or detached
 abbrev pub is_of_revocation : Entry → Bool
 is_of_revocation (Cleared at owner fd part) = true
 is_of_revocation (Detached at owner fd part) = true
 is_of_revocation entry = false
-
--- whether the call ends as all its pieces are answered
-abbrev pub ends_by_pieces : Call → Bool
-ends_by_pieces (Read fd off len) = true
-ends_by_pieces (Write fd off bytes) = true
-ends_by_pieces call = false
 
 -- an access that wrote is to a piece of its call
 abbrev pub IsPieceWhereWrote : Call → Entry → Type 0

@@ -1,51 +1,11 @@
-//! Which entries belong to a call, and which end it.
+//! Which entries belong to a call.
 ghost use Rattle.std.specs.Prelude.{◌≡◌};
-ghost use Rattle.bd_entry.specs.Calls.{is_end_of, is_made_by};
-ghost use Rattle.bd_store.specs.Kinds.{is_of_piece, is_of_revocation, is_whole_refusal};
+ghost use Rattle.bd_entry.specs.Calls.{is_made_by};
+ghost use Rattle.bd_store.specs.Kinds.{is_of_revocation};
 
 use bd_base::{Call, How};
 use bd_entry::Entry;
-
-/// Whether the entry refuses its whole call.
-fn is_whole_refusal(entry: &Entry) -> bool
-    ensures { result ≡ is_whole_refusal entry.now }
-{
-    matches!(entry, Entry::Refused { piece: None, .. })
-}
-
-/// Whether the entry alone ends the call.
-pub(crate) fn is_end_of(call: &Call, entry: &Entry) -> bool
-    ensures { result ≡ is_end_of call.now entry.now }
-{
-    if is_whole_refusal(entry) {
-        return true;
-    }
-    match call {
-        Call::Enter {
-            how: How::Direct,
-            ..
-        }
-        | Call::Map { .. } => matches!(entry, Entry::Mapped { .. }),
-        Call::Enter {
-            how: How::Plain,
-            ..
-        } => matches!(entry, Entry::Opened { .. }),
-        Call::Create { .. } => matches!(entry, Entry::Created { .. }),
-        Call::Truncate { .. } => matches!(entry, Entry::Sized { .. }),
-        Call::Unlink { .. } => matches!(entry, Entry::Unlinked { .. }),
-        Call::Size { .. } => matches!(entry, Entry::SizeRead { .. }),
-        Call::Close { .. } => matches!(entry, Entry::Closed { .. }),
-        Call::RawRead { .. } | Call::RawWrite { .. } => is_of_piece(entry),
-        Call::Read { .. } | Call::Write { .. } => false,
-    }
-}
-
-/// Whether the entry tells what became of the walk of a piece: its access, or its miss.
-fn is_of_piece(entry: &Entry) -> bool
-    ensures { result ≡ is_of_piece entry.now }
-{
-    matches!(entry, Entry::Access { .. } | Entry::Missed { .. })
-}
+use bd_kernel::{is_end_of, is_of_piece, is_whole_refusal};
 
 /// Whether entries of this kind belong to the call.
 pub(crate) fn is_made_by(call: &Call, entry: &Entry) -> bool

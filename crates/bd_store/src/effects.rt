@@ -6,7 +6,6 @@ ghost use Rattle.bd_entry.specs.Calls.{fd_of};
 ghost use Rattle.bd_entry.specs.Effects.{after_access, after_telling, with_bytes_at, with_descriptor_of_call, with_known_size, with_told_size};
 ghost use Rattle.bd_entry.specs.Store.{size_at, with_descriptor};
 ghost use Rattle.bd_store.specs.Kept.{marks_at};
-ghost use Rattle.bd_store.specs.Kinds.{ends_by_pieces};
 ghost use Rattle.bd_kernel.specs.Marks.{AreMarksOf, HasKeyOf, HasPieceOf, HasRoom};
 ghost use Rattle.bd_store.specs.Steps.{CanChange, CreatesFile, kept_after, kept_as, with_noted};
 ghost use Rattle.std.specs.Prelude.{◌≡◌, ◌<◌, ◌≤◌, ◌+◌, ◌*◌, ◌%◌, ◌/◌, None, Some, IsSome, OnOk, OnErr, length, replicate};
@@ -22,12 +21,11 @@ ghost use Rattle.bd_entry.specs.Store.{Store, slots_of, work_of};
 ghost use Rattle.bd_store.specs.Kept.{AtPlace, Represents, bare};
 ghost use Rattle.bd_store.specs.Steps.{IsReady};
 
-use crate::calls::is_end_of;
 use crate::store::PlainStore;
 use bd_base::{At, BLOCK_SIZE, BlockNo, Call, Fd, FileId, Name, OutOfMemory, Pid, Range, Way};
 use bd_entry::{Entry, at_of};
 use bd_fs::{CreateError, GrowError};
-use bd_kernel::{Descriptor, pieces_of};
+use bd_kernel::tells_size;
 
 impl PlainStore {
     /// Applies an entry that keeps the rules. After an error the store is as before.
@@ -71,37 +69,12 @@ impl PlainStore {
         ensures err { OnErr result (self.new ≡ self.old) }
     {
         match entry {
-            Entry::Opened {
-                at,
-                file,
-                fd,
-                mode,
-                how,
-            } => {
-                let descriptor = Descriptor::new(*file, *mode, *how);
-                self.descriptors.put(at.process, *fd, Some(descriptor));
-            }
             Entry::Created {
                 at,
                 name,
                 perms,
                 ..
             } => self.create(at.process, name, *perms)?,
-            Entry::Attached { at, fd, part } => {
-                self.descriptors.attach(at.process, *fd, *part);
-            }
-            Entry::Cleared {
-                owner,
-                fd,
-                part,
-                ..
-            } => self.descriptors.clear(*owner, *fd, *part),
-            Entry::Detached {
-                owner,
-                fd,
-                part,
-                ..
-            } => self.descriptors.detach(*owner, *fd, *part),
             Entry::Access {
                 block: Some(block),
                 range,
@@ -118,8 +91,12 @@ impl PlainStore {
                 let file = descriptor.file;
                 self.set_size(file, *size);
             }
-            Entry::Closed { at, fd } => self.descriptors.put(at.process, *fd, None),
             Entry::Unlinked { file, .. } => self.fs.remove(*file),
+            Entry::Opened { .. }
+            | Entry::Attached { .. }
+            | Entry::Cleared { .. }
+            | Entry::Detached { .. }
+            | Entry::Closed { .. } => self.descriptors.follow(entry),
             Entry::Mapped { .. }
             | Entry::Access { .. }
             | Entry::Missed { .. }
@@ -244,14 +221,7 @@ impl PlainStore {
             → is_ended_by call.now before ≡ false
             → result ≡ is_ended_by call.now (before ++ last.now ∷ []) }
     {
-        if is_end_of(call, last) {
-            return true;
-        }
-        if !ends_by_pieces(call) {
-            return false;
-        }
-        let count = pieces_of(call).as_slice().len();
-        self.running(at_of(last).process).are_answered(count)
+        self.running(at_of(last).process).is_ended_by(call, last)
     }
 
     /// The call ends: its entries are forgotten, and its process knows the size that it was told.
@@ -268,35 +238,5 @@ impl PlainStore {
             self.descriptors.know(at.process, fd);
         }
         self.calls[at.process.get() as usize].reset();
-    }
-}
-
-/// Whether the call ends as all its pieces are answered.
-fn ends_by_pieces(call: &Call) -> bool
-    ensures { result ≡ ends_by_pieces call.now }
-{
-    matches!(call, Call::Read { .. } | Call::Write { .. })
-}
-
-/// Whether the entry tells its process the size of its call's file.
-fn tells_size(entry: &Entry) -> bool
-    ensures { result ≡ tells_size entry.now }
-{
-    match entry {
-        Entry::Access { way, .. } => *way != Way::Direct,
-        Entry::Opened { .. }
-        | Entry::Mapped { .. }
-        | Entry::Extended { .. }
-        | Entry::Sized { .. }
-        | Entry::SizeRead { .. } => true,
-        Entry::Created { .. }
-        | Entry::Attached { .. }
-        | Entry::Cleared { .. }
-        | Entry::Detached { .. }
-        | Entry::Missed { .. }
-        | Entry::Released { .. }
-        | Entry::Closed { .. }
-        | Entry::Unlinked { .. }
-        | Entry::Refused { .. } => false,
     }
 }

@@ -8,6 +8,7 @@ use Rattle.bd_kernel.specs.Holders.{holder_in}
 use Rattle.bd_kernel.specs.Sights.{place_of, store_of}
 use Rattle.bd_kernel.specs.Turns.{AreEntriesOf, ArePieceMarksOf, IsNextAct, Progress}
 use Rattle.bd_kernel.proofs.Acts.{or-first, or-rest}
+use Rattle.bd_kernel.proofs.MarkLemmas.{pieces_marked}
 use Rattle.bd_kernel.proofs.kernel_call.KernelCall.next.Goals as goal
 
 pub returns-then-is_some : goal.returns-then-is_some
@@ -28,7 +29,7 @@ returns-then-is_some c =
     c.has_begun-begun.result ≡ has_begun (record { place = place_of q.call q.process number before; outstanding = q.outstanding }))
     (sym c.self.view_is) c.has_begun-begun.ensures before entries number in
     let first : c.first_act-act.result ≡ cond (has_begun r) None refused =
-    c.first_act-act.ensures uids bytes work number before entries.opened user ∙ ap (λ (b : Bool). cond b None refused) begun in
+    c.first_act-act.ensures uids bytes work number before entries.marks.opened user ∙ ap (λ (b : Bool). cond b None refused) begun in
     let rest = option_or (revoke (keys_to_revoke s p i.call)) (own_act s holders r i.call) in
     or-first c.first_act-act.result rest (sym c.is_some.ensures ∙ c.if-is_some.true) ∙ ap (λ (o : Option Act). option_or o rest) first)
 
@@ -50,11 +51,11 @@ returns c =
     c.has_begun-begun.result ≡ has_begun (record { place = place_of q.call q.process number before; outstanding = q.outstanding }))
     (sym c.self.view_is) c.has_begun-begun.ensures before entries number in
     let first : c.first_act-act.result ≡ cond (has_begun r) None refused =
-    c.first_act-act.ensures uids bytes work number before entries.opened user ∙ ap (λ (b : Bool). cond b None refused) begun in
+    c.first_act-act.ensures uids bytes work number before entries.marks.opened user ∙ ap (λ (b : Bool). cond b None refused) begun in
     let rest = option_or (revoke (keys_to_revoke s p i.call)) (own_act s holders r i.call) in
     let later : c.act_in_course.result ≡ rest =
     subst
     (λ (out : List ℕ). ArePieceMarksOf i.running out before → c.act_in_course.result
     ≡ option_or (revoke (keys_to_revoke s p i.call)) (own_act s holders (record { place = p; outstanding = out }) i.call))
-    c.as_slice.ensures (c.act_in_course.ensures uids bytes work number before entries.opened) entries.pieces in
+    c.as_slice.ensures (c.act_in_course.ensures uids bytes work number before entries.marks.opened) (pieces_marked i.running i.outstanding before entries.marks) in
     later ∙ or-rest c.first_act-act.result rest (sym c.is_some.ensures ∙ c.if-is_some.false) ∙ ap (λ (o : Option Act). option_or o rest) first)

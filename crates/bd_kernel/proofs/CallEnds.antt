@@ -7,7 +7,7 @@ use Rattle.bd_base.specs.declared.script.Call.{Call}
 use Rattle.bd_base.specs.declared.script.Call.TheVariants.{Read, Write}
 use Rattle.bd_entry.specs.declared.entry.Entry.{Entry}
 use Rattle.bd_entry.specs.Calls.{are_all_answered, is_answered, is_end_of, is_ended_by, pieces_of_call}
-use Rattle.bd_store.specs.Kinds.{ends_by_pieces}
+use Rattle.bd_kernel.specs.Kinds.{ends_by_pieces}
 use Rattle.bd_kernel.specs.Marks.{AreMarksOf, Marks, is_marked}
 
 or-false : (b : Bool) → b ≡ (b || false)
