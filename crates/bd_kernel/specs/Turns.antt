@@ -8,6 +8,7 @@ use Rattle.bd_entry.specs.declared.act.Act.{Act}
 use Rattle.bd_entry.specs.declared.entry.Entry.{Entry}
 use Rattle.bd_entry.specs.Actions.{Running, is_for_device, is_untouched, next_act}
 use Rattle.bd_entry.specs.Calls.{has_missed, is_answered, is_ended_by}
+use Rattle.bd_entry.specs.Refusals.{file_of}
 use Rattle.bd_entry.specs.Store.{Store, user_of}
 use Rattle.bd_fs.specs.Files.{Files}
 use Rattle.bd_kernel.specs.Changes.{Rows}
@@ -52,6 +53,13 @@ IsNextAct fs table c answer =
     (λ s. user_of s c.process ≡ c.uid → (number : ℕ) (before : List Entry) → AreEntriesOf c before →
     answer ≡ next_act s (holder_in table.held)
     (record { place = place_of c.call c.process number before; outstanding = c.outstanding }))
+
+-- the answer is the file of the call in each store of these files and descriptors, whatever its entries so far may be
+abbrev pub IsFileOf : Files → Table → Progress → Option ℕ → Type 0
+IsFileOf fs table c answer =
+    InStore fs table.rows
+    (λ s. (number : ℕ) (before : List Entry) → AreEntriesOf c before →
+    answer ≡ file_of s (place_of c.call c.process number before))
 
 -- the call is within its limits, and its commands are of its pieces
 pub record IsProgress (c : Progress) : Type 0 where

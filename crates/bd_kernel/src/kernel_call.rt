@@ -1,5 +1,5 @@
 //! A running call of a process, and the action that it needs next.
-ghost use Rattle.std.specs.Prelude.{◌≡◌, ℕ, ◌<◌, ◌++◌, ◌∷◌, ◌&&◌, [], None, cond, true, false, IfOk, List, Some, drop, length, nat_eq};
+ghost use Rattle.std.specs.Prelude.{◌≡◌, ℕ, ◌<◌, ◌≤◌, ◌++◌, ◌∷◌, ◌&&◌, [], None, cond, true, false, All, Contains, IfOk, List, Some, drop, length, nat_eq};
 ghost use Rattle.std.specs.Option.{option_or};
 ghost use Rattle.bd_entry.specs.declared.entry.Entry.{Entry};
 ghost use Rattle.bd_base.specs.Scripts.{IsCall};
@@ -11,7 +11,7 @@ ghost use Rattle.bd_kernel.specs.Holders.{holder_in};
 ghost use Rattle.bd_kernel.specs.Marks.{HasPieceOf};
 ghost use Rattle.bd_kernel.specs.Sights.{AtPlace, place_of};
 ghost use Rattle.bd_entry.specs.Calls.{fd_of_call};
-ghost use Rattle.bd_kernel.specs.Turns.{ArePieceMarksOf, AreEntriesOf, IsNextAct, IsSameCall, Takes};
+ghost use Rattle.bd_kernel.specs.Turns.{ArePieceMarksOf, AreEntriesOf, IsFileOf, IsNextAct, IsSameCall, Takes};
 
 use crate::beginning::before_beginning;
 use crate::calls::fd_of_call;
@@ -19,10 +19,11 @@ use crate::descriptors::Descriptors;
 use crate::files::{attach_by, open_directly, open_file, tell_size, truncate, unlink};
 use crate::outstanding::Outstanding;
 use crate::pieces::{kernel_part, submit_or_poll};
+use crate::place::file_of;
 use crate::refusals::first_refusal;
 use crate::revocation::{keys_to_revoke, revoke};
 use crate::running_call::RunningCall;
-use bd_base::{Call, How, OutOfMemory, Pid};
+use bd_base::{Call, FileId, How, OutOfMemory, Pid};
 use bd_entry::{Act, Entry};
 use bd_fs::Fs;
 use std::alloc::Global;
@@ -331,4 +332,35 @@ impl KernelCall {
     {
         fd_of_call(&self.call, self.running.opened())
     }
+
+    /// The file of the call: the one of its name, or else of its descriptor.
+    pub fn file(&self, fs: &Fs, descriptors: &Descriptors) -> Option<FileId>
+        ensures { IsFileOf fs.now descriptors.now self.now result }
+    {
+        file_of(
+            fs,
+            descriptors.table(),
+            &self.call,
+            self.process,
+            &self.running,
+        )
+    }
+
+    /// The least piece whose command is outstanding; there is one.
+    pub fn least_outstanding(&self) -> u8
+        requires { 0 < length self.now.outstanding }
+        ensures outstanding { Contains self.now.outstanding result }
+        ensures least { All (λ piece. result ≤ piece) self.now.outstanding }
+    {
+        least_of(self.outstanding.as_slice())
+    }
+}
+
+/// The least of these numbers; there is one.
+fn least_of(numbers: &[u8]) -> u8
+    requires { 0 < length numbers.now }
+    ensures among { Contains numbers.now result }
+    ensures least { All (λ number. result ≤ number) numbers.now }
+{
+    *numbers.iter().min().unwrap()
 }

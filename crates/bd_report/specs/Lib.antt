@@ -1,5 +1,6 @@
 -- The words of the contracts of replies and reports.
 pub mod Basis
+pub mod Counts
 pub mod Laws
 pub mod Notes
 pub mod Replies

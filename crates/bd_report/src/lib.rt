@@ -3,11 +3,13 @@
 
 mod journal;
 pub mod laws;
+mod looks;
 mod notes;
 mod replies;
 mod reporting;
 mod totals;
 
+pub use looks::counts;
 pub use reporting::{reply, report};
 
 #[cfg(test)]

@@ -4,10 +4,12 @@ ghost use Rattle.bd_base.specs.Scripts.{IsWithinLimits};
 ghost use Rattle.bd_entry.specs.Calls.{calls_of};
 ghost use Rattle.bd_entry.specs.History.{InOrder};
 
-use crate::{reply, report};
-use bd_base::{At, Pid, Script};
+use crate::{counts, reply, report};
+use bd_base::{Actor, At, Pid, Script};
 use bd_entry::{EntryList, one_journal, read_journal};
 use bd_script::{one_script, read_script};
+use bd_tables::Looked;
+use bd_turns::{Event, Row};
 use std::alloc::Global;
 use std::test::Fail;
 
@@ -121,5 +123,28 @@ fn replies_alone(rt: HostRuntime) -> Result<(), Fail> {
     assert_eq!(rt; write.as_slice(), b"no-space".as_slice());
     let read = reply(alloc, &script, journal, At { process, call: 2 })?;
     assert_eq!(rt; read.as_slice(), b"ok 5 41*1,42*1,43*3".as_slice());
+    Ok(())
+}
+
+/// The event of a turn of an engine.
+fn event(turn: u64, row: Row) -> Result<Event, Fail> {
+    let actor = Actor::new(1).ok_or("an actor")?;
+    Ok(Event { turn, actor, row })
+}
+
+#[test]
+fn the_line_of_the_cache(rt: HostRuntime) -> Result<(), Fail> {
+    let alloc = rt.alloc();
+    let trace = [
+        event(3, Row::Look(Looked::Miss))?,
+        event(4, Row::ReadEntry(None))?,
+        event(9, Row::Look(Looked::Hit))?,
+        event(10, Row::Move)?,
+        event(12, Row::Look(Looked::Miss))?,
+    ];
+    let line = counts(alloc, &trace)?;
+    assert_eq!(rt; line.as_slice(), b"cache hits 1 misses 2\n");
+    let none = counts(alloc, &[])?;
+    assert_eq!(rt; none.as_slice(), b"cache hits 0 misses 0\n");
     Ok(())
 }

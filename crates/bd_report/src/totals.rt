@@ -46,7 +46,7 @@ pub(crate) fn totals_of(journal: &[Entry]) -> Totals
 }
 
 /// Appends a number after its name.
-fn push_total(text: &mut Vec<u8>, name: &[u8], number: u64) -> Result<(), OutOfMemory>
+pub(crate) fn push_total(text: &mut Vec<u8>, name: &[u8], number: u64) -> Result<(), OutOfMemory>
     ensures { OnOk result (text.new.items ≡ text.old.items ++ total_text name.now number) }
 {
     push_bytes(text, name)?;
