@@ -12,3 +12,5 @@ pub mod KeyLists
 pub mod Acts
 pub mod CallEnds
 pub mod CallsWithoutEntries
+pub mod DiskBytes
+pub mod DiskEntries

@@ -6,3 +6,4 @@ pub mod Marks
 pub mod Sights
 pub mod Holders
 pub mod Turns
+pub mod Disks

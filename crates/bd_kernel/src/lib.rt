@@ -5,6 +5,7 @@ mod beginning;
 mod calls;
 mod descriptor;
 mod descriptors;
+mod disk;
 mod ends;
 mod files;
 mod kernel_call;
@@ -25,6 +26,7 @@ pub use calls::{
 };
 pub use descriptor::{Change, Descriptor};
 pub use descriptors::Descriptors;
+pub use disk::{Disk, sound_entries_can_change};
 pub use ends::{is_end_of, is_of_piece, is_whole_refusal, tells_size};
 pub use kernel_call::KernelCall;
 pub use part_set::PartSet;

@@ -12,8 +12,8 @@ ghost use Rattle.bd_kernel.specs.declared.descriptor.Change.TheVariants.{Know, T
 
 use crate::descriptor::{Change, Descriptor};
 use crate::row::Row;
-use bd_entry::Entry;
 use bd_base::{FILES, FRAGMENTS, Fd, FileId, KeyList, OutOfMemory, PARTS, Part, Pid};
+use bd_entry::Entry;
 use std::alloc::Global;
 use std::marker::Model;
 

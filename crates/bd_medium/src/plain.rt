@@ -1,6 +1,6 @@
 //! A device whose blocks lie in memory, one after the other.
 ghost use Rattle.std.specs.Prelude.{◌≡◌, ◌+◌, ◌≤◌, length};
-ghost use Rattle.bd_medium.specs.Contents.{AreBlocks, with_bytes};
+ghost use Rattle.bd_medium.specs.Contents.{AreBlocks, HasBlock, range_bytes, with_bytes};
 
 use crate::medium::Medium;
 use bd_base::{BLOCK_SIZE, BlockNo, Bytes, List, OutOfMemory, Range};
@@ -35,6 +35,15 @@ impl Plain {
         }
     }
 
+    /// The bytes of the range of a block that is there.
+    pub fn slice(&self, b: BlockNo, r: Range) -> &[u8]
+        requires { HasBlock self.now b }
+        ensures { result.now ≡ range_bytes self.now b r }
+    {
+        let start = (BLOCK_SIZE * b.get()) as usize;
+        &self.bytes.as_slice()[start + r.lo as usize..start + r.hi as usize]
+    }
+
     // Puts these bytes at this place. All else stays.
     fn put(&mut self, place: usize, bytes: &[u8])
         requires { place + length bytes.now ≤ length self.old }
@@ -58,9 +67,7 @@ impl Medium for Plain {
     }
 
     fn move_out(&self, b: BlockNo, r: Range) -> Result<Bytes, OutOfMemory> {
-        let start = (BLOCK_SIZE * b.get()) as usize;
-        let range = &self.bytes.as_slice()[start + r.lo as usize..start + r.hi as usize];
-        List::from_slice(*self.bytes.allocator(), range)
+        List::from_slice(*self.bytes.allocator(), self.slice(b, r))
     }
 
     fn zero(&mut self, b: BlockNo) {
