@@ -86,7 +86,8 @@ impl<M: Medium> Disk<M> {
 
     /// The device.
     pub fn medium(&self) -> &M
-        ensures { M.contents result.now ≡ self.now.bytes }
+        ensures bytes { M.contents result.now ≡ self.now.bytes }
+        ensures whole { length self.now.bytes ≡ BLOCK_SIZE * self.now.total }
     {
         &self.medium
     }

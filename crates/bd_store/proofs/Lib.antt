@@ -9,6 +9,7 @@ pub mod OpenDescriptors
 pub mod OneVerdict
 pub mod StartStores
 pub mod ReadyChanges
+pub mod KeptDisks
 pub mod KeptSteps
 pub mod Starts
 pub mod Applies

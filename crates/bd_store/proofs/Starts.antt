@@ -1,10 +1,10 @@
 -- The store that begins with a sound volume and these users, and what is kept of it.
-use Rattle.std.proofs.Common.{◌≡◌, ℕ, ◌<◌, ◌≤◌, ◌*◌, List, [], ◌∷◌, map, length, replicate, zero, suc, Option, None, arith, refl, sym, ap, ◌∙◌, inl, inr, subst}
+use Rattle.std.proofs.Common.{◌≡◌, ℕ, ◌<◌, ◌≤◌, List, [], ◌∷◌, map, length, replicate, zero, suc, Option, None, arith, refl, sym, ap, ◌∙◌, inl, inr, subst}
 use Rattle.std.specs.Prelude.{slice_index_or, All}
 use Rattle.std.proofs.lemmas.Bool.{cases_lt}
-use Rattle.std.proofs.lemmas.List.{get_or_past, length-map, length-replicate}
+use Rattle.std.proofs.lemmas.List.{get_or_past, length-map}
 use Rattle.std.proofs.lemmas.List.Elements.{All-map, All-nil}
-use Rattle.bd_base.specs.declared.limits.TheConstants.{BLOCK_SIZE, DESCRIPTORS, PROCESSES, USERS}
+use Rattle.bd_base.specs.declared.limits.TheConstants.{DESCRIPTORS, PROCESSES, USERS}
 use Rattle.bd_base.specs.declared.script.Process.{Process}
 use Rattle.bd_base.specs.declared.volume.Inode.{Inode}
 use Rattle.bd_base.specs.declared.volume.Volume.{Volume}
@@ -13,7 +13,7 @@ use Rattle.bd_base.specs.Volumes.{IsSoundVolume}
 use Rattle.bd_entry.specs.declared.entry.Entry.{Entry}
 use Rattle.bd_entry.specs.Store.{Descriptor}
 use Rattle.bd_entry.proofs.StoreLaws.{start_is_valid}
-use Rattle.bd_store.specs.Kept.{AreIdle, AreMarked, IsKept, Kept, Represents, idle_script, no_marks, start_of, store_of}
+use Rattle.bd_store.specs.Kept.{AreIdle, IsKept, Kept, Represents, idle_script, no_marks, start_of, store_of}
 use Rattle.bd_kernel.specs.Marks.{AreMarksOf, Marks}
 
 -- a process that calls nothing
@@ -81,18 +81,9 @@ module _ (v : Volume) (uids : List ℕ) (sound : IsSoundVolume v) (few : length 
     valid = start_is_valid v (idle_script uids) sound (idle-limits uids few users);
   }
 
-  -- each process has its row and its marks
-  pub started-parts : (k : Kept) → k.total ≡ v.total → k.uids ≡ uids → k.bytes ≡ v.bytes → k.opens ≡ empty_rows (length uids) →
-      AreIdle (length uids) k.marks → IsKept k
-  started-parts k total same bytes opens idle_are =
-      let users_count : length k.uids ≡ length uids = ap (λ (xs : List ℕ). length xs) same in
-      record {
-        rows =
-            ap (λ (rows : List (List (Option Descriptor))). length rows) opens ∙ length-replicate (length uids) (replicate DESCRIPTORS None)
-            ∙ sym users_count;
-        marks = idle_are.count ∙ sym users_count;
-        bytes = ap (λ (bs : List ℕ). length bs) bytes ∙ sound.all_bytes ∙ ap (λ (n : ℕ). BLOCK_SIZE * n) (sym total);
-      }
+  -- each process has its marks
+  pub started-parts : (k : Kept) → k.uids ≡ uids → AreIdle (length uids) k.marks → IsKept k
+  started-parts k same idle_are = record { marks = idle_are.count ∙ sym (ap (λ (xs : List ℕ). length xs) same) }
 
   -- what is kept of each part is what there is at the start
   pub started : (k : Kept) → k.total ≡ v.total → k.uids ≡ uids → k.files ≡ v.inodes → k.bytes ≡ v.bytes → k.opens ≡ empty_rows (length uids) →

@@ -1,7 +1,6 @@
 -- What a plain store keeps, and the stores of the definitions that it stands for.
-use Rattle.std.specs.Prelude.{All, ◌≡◌, ◌↔◌, ℕ, ◌*◌, Bool, true, false, Option, None, Some, List, [], length, map, slice_index_or}
+use Rattle.std.specs.Prelude.{All, ◌≡◌, ◌↔◌, ℕ, Bool, true, false, Option, None, Some, List, [], length, map, slice_index_or}
 use Rattle.bd_base.specs.declared.journal.At.{At}
-use Rattle.bd_base.specs.declared.limits.TheConstants.{BLOCK_SIZE}
 use Rattle.bd_base.specs.declared.script.Call.{Call}
 use Rattle.bd_base.specs.declared.script.Process.{Process}
 use Rattle.bd_base.specs.declared.script.Script.{Script}
@@ -11,8 +10,9 @@ use Rattle.bd_base.specs.Rules.{IsLeastBroken}
 use Rattle.bd_entry.specs.declared.entry.Entry.{Entry}
 use Rattle.bd_entry.specs.Calls.{Place, at_of}
 use Rattle.bd_entry.specs.Rules.{EntryRule, FitsStore, entry_rule_number, place_in}
-use Rattle.bd_entry.specs.Store.{Descriptor, Store, Valid, start_store, work_of}
+use Rattle.bd_entry.specs.Store.{Descriptor, Store, Valid, start_store}
 use Rattle.bd_fs.specs.Files.{Files}
+use Rattle.bd_kernel.specs.Disks.{DiskState}
 use Rattle.bd_kernel.specs.Marks.{AreMarksOf, Marks}
 
 -- a store with marks of the entries of each running call in their place
@@ -24,11 +24,9 @@ pub record Kept : Type 0 where
   pub opens : List (List (Option Descriptor))
   pub marks : List Marks
 
--- each process has a row of descriptors and its marks, and each block has its bytes
+-- each process has its marks
 pub record IsKept (k : Kept) : Type 0 where
-  pub rows : length k.opens ≡ length k.uids
   pub marks : length k.marks ≡ length k.uids
-  pub bytes : length k.bytes ≡ BLOCK_SIZE * k.total
 
 -- the marks of no entry
 abbrev pub no_marks : Marks
@@ -46,6 +44,10 @@ pub record AreIdle (processes : ℕ) (marks : List Marks) : Type 0 where
 -- the files, and how many blocks there are
 abbrev pub files_of : Kept → Files
 files_of k = record { total = k.total; files = k.files }
+
+-- the disk, on which processes hold these files
+abbrev pub disk_of : Kept → List (Option ℕ) → DiskState
+disk_of k held = record { total = k.total; files = k.files; bytes = k.bytes; rows = k.opens; held = held }
 
 -- the store with these as the entries of running calls
 abbrev pub store_of : Kept → List (List Entry) → Store

@@ -1,10 +1,10 @@
 -- Kinds of entries.
-use Rattle.std.specs.Prelude.{◌≡◌, ℕ, Bool, true, false, Option, None, Some, List, slice_get}
+use Rattle.std.specs.Prelude.{◌≡◌, ℕ, Bool, true, false, Option, Some, List, slice_get}
 use Rattle.bd_base.specs.declared.script.Call.{Call}
 use Rattle.bd_base.specs.declared.volume.Inode.{Inode}
 use Rattle.bd_base.specs.Inodes.{blocks_of_slot, inode_at}
 use Rattle.bd_entry.specs.declared.entry.Entry.{Entry}
-use Rattle.bd_entry.specs.declared.entry.Entry.TheVariants.{Access, Cleared, Detached, Refused}
+use Rattle.bd_entry.specs.declared.entry.Entry.TheVariants.{Access, Cleared, Detached}
 use Rattle.bd_entry.specs.Calls.{piece_of_call}
 
 -- whether the entry tells that a right is cleared or detached

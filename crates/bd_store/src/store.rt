@@ -1,7 +1,7 @@
 //! The plain store, and what it shows to the rules.
-ghost use Rattle.std.specs.Prelude.{◌≡◌, ◌<◌, ◌≤◌, ◌↔◌, ℕ, Err, All, IfOk, OnErr, OnOk, length, slice_index_or};
+ghost use Rattle.std.specs.Prelude.{◌≡◌, ◌*◌, ◌<◌, ◌≤◌, ◌↔◌, ℕ, Err, All, IfOk, OnErr, OnOk, length, slice_index_or};
 ghost use Rattle.std.specs.Option.{option_copied};
-ghost use Rattle.bd_base.specs.declared.limits.TheConstants.{PROCESSES, USERS};
+ghost use Rattle.bd_base.specs.declared.limits.TheConstants.{BLOCK_SIZE, PROCESSES, USERS};
 ghost use Rattle.bd_base.specs.Inodes.{AreValidFiles, id_of, inode_at};
 ghost use Rattle.bd_base.specs.Scripts.{IsCall};
 ghost use Rattle.bd_base.specs.Volumes.{IsSoundVolume};
@@ -15,7 +15,8 @@ ghost use Rattle.bd_store.specs.Kept.{AreIdle, Represents, BreaksAt, files_of, m
 use bd_base::{Call, FileId, Inode, List, Name, OutOfMemory, Pid, Volume};
 use bd_entry::Entry;
 use bd_fs::Fs;
-use bd_kernel::{DescriptorTable, RunningCall};
+use bd_kernel::{DescriptorTable, Disk, RunningCall};
+use bd_medium::Plain;
 use std::alloc::Global;
 use std::marker::Model;
 
@@ -46,11 +47,8 @@ impl From<OutOfMemory> for ApplyError {
 /// ask about. An entry is decided, and applied, at the same cost however many came before it.
 #[derive(Drop)]
 pub struct PlainStore {
-    pub(crate) alloc: Global,
-    pub(crate) fs: Fs,
-    pub(crate) bytes: Vec<u8>,
+    pub(crate) disk: Disk<Plain>,
     pub(crate) uids: UidList,
-    pub(crate) descriptors: DescriptorTable,
     pub(crate) calls: Vec<RunningCall>,
 }
 
@@ -60,20 +58,20 @@ impl Model for PlainStore {
     ghost Value = { Kept };
 
     ghost view = { λ a. record {
-      total = a.fs.total;
+      total = a.disk.total;
       uids = a.uids;
-      files = a.fs.files;
-      bytes = a.bytes.items;
-      opens = a.descriptors;
+      files = a.disk.files;
+      bytes = a.disk.bytes;
+      opens = a.disk.rows;
       marks = a.calls.items;
     } };
 
     ghost invariant = { λ a. IsKept (record {
-      total = a.fs.total;
+      total = a.disk.total;
       uids = a.uids;
-      files = a.fs.files;
-      bytes = a.bytes.items;
-      opens = a.descriptors;
+      files = a.disk.files;
+      bytes = a.disk.bytes;
+      opens = a.disk.rows;
       marks = a.calls.items;
     }) };
 }
@@ -93,17 +91,10 @@ impl PlainStore {
             inodes,
             bytes,
         } = volume;
-        let fs = Fs::new(alloc, total, inodes)?;
-        let descriptors = DescriptorTable::new(alloc, uids.len())?;
+        let medium = Plain::new(bytes);
+        let disk = Disk::new(alloc, total, inodes, medium, uids.len())?;
         let calls = idle_calls(alloc, uids.len())?;
-        Ok(PlainStore {
-            alloc,
-            fs,
-            bytes: bytes.into_vec(),
-            uids,
-            descriptors,
-            calls,
-        })
+        Ok(PlainStore { disk, uids, calls })
     }
 
     /// Decides the next entry of its process's running call, and applies it.
@@ -145,14 +136,14 @@ impl PlainStore {
         ensures found { option_copied result ≡ inode_at self.now.files file }
         ensures valid { AreValidFiles self.now.total self.now.files }
     {
-        self.fs.inode(file)
+        self.disk.fs().inode(file)
     }
 
     /// The id of the file with this name.
     pub(crate) fn find(&self, name: &Name) -> Option<FileId>
         ensures { result ≡ id_of name.now self.now.files }
     {
-        self.fs.lookup(name)
+        self.disk.fs().lookup(name)
     }
 
     /// The user of a process.
@@ -167,14 +158,22 @@ impl PlainStore {
     pub(crate) fn fs(&self) -> &Fs
         ensures { result.now ≡ files_of self.now }
     {
-        &self.fs
+        self.disk.fs()
     }
 
     /// The descriptors of all processes.
     pub(crate) fn descriptors(&self) -> &DescriptorTable
         ensures { result.now ≡ self.now.opens }
     {
-        &self.descriptors
+        self.disk.descriptors().table()
+    }
+
+    /// The bytes of all blocks.
+    pub(crate) fn medium(&self) -> &Plain
+        ensures bytes { result.now ≡ self.now.bytes }
+        ensures whole { length self.now.bytes ≡ BLOCK_SIZE * self.now.total }
+    {
+        self.disk.medium()
     }
 
     /// What is kept of the running call of a process.

@@ -48,7 +48,7 @@ impl PlainStore {
         ensures { (result ≡ true) ↔ TheFile (file_in (bare self.now) file) (λ f.
             growth_block self.now.total self.now.files f ≡ block) }
     {
-        self.inode(file).is_some() && self.fs.next_block(file) == block
+        self.inode(file).is_some() && self.fs().next_block(file) == block
     }
 
     /// Whether the index and the block are those of the file's last block.

@@ -1,14 +1,13 @@
 //! Rule 12: the bytes.
-ghost use Rattle.std.specs.Prelude.{◌≡◌, ◌<◌, ◌≤◌, ◌*◌, length, slice_get};
+ghost use Rattle.std.specs.Prelude.{◌≡◌, slice_get};
 ghost use Rattle.bd_base.specs.Scripts.{IsCall};
-ghost use Rattle.bd_base.specs.declared.limits.TheConstants.{BLOCK_SIZE};
 ghost use Rattle.bd_entry.specs.RulesOfContents.{HasRightBytes, bytes_within};
 ghost use Rattle.bd_entry.specs.Store.{blocks_in, limit_in};
 ghost use Rattle.bd_store.specs.Kept.{Judges, bare};
 ghost use Rattle.bd_store.specs.Kinds.{IsPieceWhereWrote, IsBlockOf};
 
 use crate::store::PlainStore;
-use bd_base::{BLOCK_SIZE, Call, FileId, Range};
+use bd_base::{Call, FileId, Range};
 use bd_entry::Entry;
 use bd_kernel::bytes_for_piece;
 use bd_pieces::Piece;
@@ -69,12 +68,10 @@ impl PlainStore {
         let Some(block) = inode.blocks.as_slice().get(index as usize) else {
             return &[];
         };
-        let start = (BLOCK_SIZE * block.get()) as usize;
-        let lo = usize::from(range.lo);
-        let hi = usize::from(range.hi).min(self.limit_of(file, index) as usize);
-        if hi <= lo {
-            return &[];
+        let hi = u64::from(range.hi).min(self.limit_of(file, index));
+        match Range::new(u64::from(range.lo), hi) {
+            Some(part) => self.medium().slice(*block, part),
+            None => &[],
         }
-        &self.bytes[start + lo..start + hi]
     }
 }

@@ -19,7 +19,7 @@ impl PlainStore {
             | Entry::Extended { at, file, .. }
             | Entry::Released { at, file, .. }
             | Entry::Unlinked { at, file } => self.file_of(call, at) == Some(*file),
-            Entry::Created { file, .. } => self.fs.free_id() == Some(*file),
+            Entry::Created { file, .. } => self.fs().free_id() == Some(*file),
             Entry::Cleared { at, owner, fd, .. } | Entry::Detached { at, owner, fd, .. } => {
                 self.is_of_file(call, at, *owner, *fd)
             }

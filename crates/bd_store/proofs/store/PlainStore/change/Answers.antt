@@ -12,7 +12,7 @@ use Rattle.bd_store.proofs.store.PlainStore.change.Goals as goal
 
 pub change_by-requires-clause-fit : goal.change_by-requires-clause-fit
 change_by-requires-clause-fit g c =
-    can_change c.args.self.now g.s c.args.call.now c.args.entry.now c.requires.0 c.requires.1.0 c.requires.1.1.1
+    λ held. can_change c.args.self.now g.s c.args.call.now c.args.entry.now held c.requires.0 c.requires.1.0 c.requires.1.1.1
 
 pub note-requires-clause-piece : goal.note-requires-clause-piece
 note-requires-clause-piece g c = has_piece g.s c.args.call.now c.args.entry.now c.requires.1.0 c.requires.1.1.1
