@@ -1,3 +1,4 @@
 -- Lemmas on turns and runs.
+pub mod Cases
 pub mod Growing
 pub mod Determined

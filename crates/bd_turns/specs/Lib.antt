@@ -5,4 +5,6 @@ pub mod Engines
 pub mod Turns
 pub mod Course
 pub mod Sound
+pub mod Added
+pub mod Reached
 pub mod Laws

@@ -116,10 +116,10 @@ abbrev pub pieces_in_hand : Option InHand → List ℕ
 pieces_in_hand None = []
 pieces_in_hand (Some hand) = hand.piece ∷ []
 
--- the pieces of commands that are not polled yet
+-- the pieces of commands that are not polled yet, in the order in which they were submitted
 abbrev pub outstanding : Progress → List ℕ
 outstanding progress =
-    progress.submitted ++ pieces_in_hand progress.hand ++ map (λ (done : Completed). done.piece) progress.completed
+    map (λ (done : Completed). done.piece) progress.completed ++ pieces_in_hand progress.hand ++ progress.submitted
 
 -- whether a call with these entries has ended: they end it, and no command of it is outstanding
 abbrev pub has_ended : Call → List Entry → Progress → Bool

@@ -1,0 +1,100 @@
+-- The cases of an effective turn.
+use Rattle.std.proofs.Common.{◌≡◌, ℕ, ◌*◌, ◌-◌, Bool, true, false, List, [], ◌∷◌, ◌++◌, Option, None, Some, cond, refl, sym, ap, ◌∙◌}
+use Rattle.std.specs.Prelude.{nat_lt}
+use Rattle.std.proofs.lemmas.Option.{none-some, same_Some}
+use Rattle.std.specs.Option.{option_and_then, option_map, option_map_or}
+use Rattle.bd_entry.specs.declared.entry.Entry.{Entry}
+use Rattle.bd_entry.specs.Calls.{Place, call_at}
+use Rattle.bd_tables.specs.State.{TableState}
+use Rattle.bd_turns.specs.declared.turn.Row.{Row}
+use Rattle.bd_turns.specs.Engines as engines
+use Rattle.bd_turns.specs.Engines.{Invalidation, Step, engine_step, invalidation_of}
+use Rattle.bd_turns.specs.Processors as processors
+use Rattle.bd_turns.specs.Processors.{Action, next_action}
+use Rattle.bd_turns.specs.State.{Posted, State, place_of, running, running_at}
+use Rattle.bd_turns.specs.Turns.{Outcome, Nothing, Waiting, Acting, after_adding, after_effect, after_ending, after_polling, after_posting, after_step, after_submitting, after_turn, engine_outcome, invalidation_outcome, outcome_of, outcome_of_action, outcome_of_invalidation, posting_place, process_count, processor_outcome, state_after}
+
+-- the state that each kind of effective turn leads to
+data Effective (m : State) : State → Type 0 where
+  adds : (p : Place) (row : Row) (entry : Entry) → running m p.at.process ≡ Some p →
+      next_action m p ≡ Some (processors.Adds row entry) → Effective m (after_adding m p row entry)
+  posts : (p : Place) (key : _) → running m p.at.process ≡ Some p →
+      next_action m p ≡ Some (processors.Posts key) → Effective m (after_posting m p (record { key = key; by = p.at }))
+  submits : (p : Place) (piece : ℕ) → running m p.at.process ≡ Some p →
+      next_action m p ≡ Some (processors.Submits piece) → Effective m (after_submitting m p piece)
+  polls : (p : Place) → running m p.at.process ≡ Some p →
+      next_action m p ≡ Some processors.Polls → Effective m (after_polling m p)
+  steps : (p : Place) (step : Step) → running m p.at.process ≡ Some p → engine_step m p ≡ Some step →
+      Effective m (after_step m p step)
+  changes : (p : Place) (row : Row) (tables : TableState) → posting_place m ≡ Some p →
+      invalidation_of m.tables m.posted ≡ Some (engines.Changes row tables) →
+      Effective m (after_effect (record m { tables = tables }) p)
+  ends : (p : Place) (entry : Entry) (tables : TableState) → posting_place m ≡ Some p →
+      invalidation_of m.tables m.posted ≡ Some (engines.Ends entry tables) →
+      Effective m (after_ending m p entry tables)
+
+-- ---- the cases of a turn
+
+-- a turn leaves the state, or is effective
+data Leads (m next : State) : Type 0 where
+  stays : next ≡ m → Leads m next
+  acts : Effective m next → Leads m next
+
+-- the place of the running call of a process is of that process
+running_process : (m : State) (process : ℕ) (p : Place) → running m process ≡ Some p → p.at.process ≡ process
+running_process m process p is = by (call_at m.script (running_at m process)) is
+  where
+    by : (call : Option _) → option_map (place_of m (running_at m process)) call ≡ Some p → p.at.process ≡ process
+    by None is = absurd (none-some p is)
+    by (Some call) is =
+        sym (ap (λ (q : Place). q.at.process) (same_Some (place_of m (running_at m process) call) p is))
+
+of_option : {X : Type 0} (m : State) (f : X → Outcome) (slot : Option X) →
+    ((x : X) → slot ≡ Some x → Leads m (state_after m (f x))) → Leads m (state_after m (option_map_or f slot Nothing))
+of_option m f None each = stays refl
+of_option m f (Some x) each = each x refl
+
+of_cond : (m : State) (first : Bool) (one other : Outcome) → Leads m (state_after m one) →
+    Leads m (state_after m other) → Leads m (state_after m (cond first one other))
+of_cond m true one other a b = a
+of_cond m false one other a b = b
+
+of_action : (m : State) (p : Place) → running m p.at.process ≡ Some p → (action : Action) →
+    next_action m p ≡ Some action → Leads m (state_after m (outcome_of_action m p action))
+of_action m p is (processors.Adds row entry) acting = acts (adds p row entry is acting)
+of_action m p is (processors.Posts key) acting = acts (posts p key is acting)
+of_action m p is (processors.Submits piece) acting = acts (submits p piece is acting)
+of_action m p is processors.Polls acting = acts (polls p is acting)
+of_action m p is (processors.WaitsFor wait) acting = stays refl
+
+of_invalidation : (m : State) (p : Place) → posting_place m ≡ Some p → (invalidation : Invalidation) →
+    invalidation_of m.tables m.posted ≡ Some invalidation →
+    Leads m (state_after m (outcome_of_invalidation m p invalidation))
+of_invalidation m p is (engines.Changes row tables) acting = acts (changes p row tables is acting)
+of_invalidation m p is (engines.Ends entry tables) acting = acts (ends p entry tables is acting)
+of_invalidation m p is (engines.WaitsFor wait) acting = stays refl
+
+-- the running call of a process, at a place of that process
+running_there : (m : State) (process : ℕ) (p : Place) → running m process ≡ Some p → running m p.at.process ≡ Some p
+running_there m process p is = ap (running m) (running_process m process p is) ∙ is
+
+processor_leads : (m : State) (process : ℕ) → Leads m (state_after m (processor_outcome m process))
+processor_leads m process =
+    of_option m (λ p. option_map_or (outcome_of_action m p) (next_action m p) Nothing) (running m process)
+    (λ p is. of_option m (outcome_of_action m p) (next_action m p) (of_action m p (running_there m process p is)))
+
+engine_leads : (m : State) (process : ℕ) → Leads m (state_after m (engine_outcome m process))
+engine_leads m process =
+    of_option m _ (running m process)
+    (λ p is. of_option m _ (engine_step m p) (λ step acting. acts (steps p step (running_there m process p is) acting)))
+
+invalidation_leads : (m : State) → Leads m (state_after m (invalidation_outcome m))
+invalidation_leads m =
+    of_option m _ (posting_place m)
+    (λ p is. of_option m (outcome_of_invalidation m p) (invalidation_of m.tables m.posted) (of_invalidation m p is))
+
+-- a turn leaves the state or is one of the effective ones
+turn_leads : (m : State) (actor : ℕ) → Leads m (after_turn m actor)
+turn_leads m actor =
+    of_cond m (nat_lt actor (process_count m)) _ _ (processor_leads m actor)
+    (of_cond m (nat_lt actor (2 * process_count m)) _ _ (engine_leads m (actor - process_count m)) (invalidation_leads m))
