@@ -1,4 +1,5 @@
 -- Lemmas on turns and runs.
 pub mod Cases
-pub mod Growing
+pub mod CallsAfterTurns
 pub mod Determined
+pub mod Growing
