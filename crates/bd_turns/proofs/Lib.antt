@@ -2,4 +2,6 @@
 pub mod Cases
 pub mod CallsAfterTurns
 pub mod Determined
+pub mod FilesOfCalls
 pub mod Growing
+pub mod RefusalsStayAway
