@@ -5,3 +5,4 @@ pub mod Determined
 pub mod FilesOfCalls
 pub mod Growing
 pub mod RefusalsStayAway
+pub mod RightsOnFiles
