@@ -1,8 +1,10 @@
 -- Lemmas on turns and runs.
+pub mod ActionsOfCalls
 pub mod Cases
 pub mod CallsAfterTurns
 pub mod Determined
 pub mod FilesOfCalls
 pub mod Growing
 pub mod RefusalsStayAway
+pub mod Revocations
 pub mod RightsOnFiles
