@@ -3,6 +3,7 @@ pub mod ActionsOfCalls
 pub mod Cases
 pub mod CallsAfterTurns
 pub mod Determined
+pub mod EntriesOfCalls
 pub mod FilesOfCalls
 pub mod Growing
 pub mod RefusalsStayAway
