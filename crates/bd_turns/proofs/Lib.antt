@@ -3,6 +3,7 @@ pub mod ActionsOfCalls
 pub mod Cases
 pub mod CallsAfterTurns
 pub mod Determined
+pub mod EffectiveTurns
 pub mod EngineSteps
 pub mod EntriesOfCalls
 pub mod FilesOfCalls
