@@ -8,6 +8,7 @@ pub mod EngineSteps
 pub mod EntriesOfCalls
 pub mod FilesOfCalls
 pub mod Growing
+pub mod HoldsAfterTurns
 pub mod RefusalsStayAway
 pub mod Revocations
 pub mod RightsOnFiles
