@@ -15,7 +15,7 @@ use Rattle.bd_entry.specs.declared.entry.Entry.TheVariants as entries
 use Rattle.bd_entry.specs.Calls.{Place, at_of, is_end_of, is_made_by, is_opened, pieces_of_call}
 use Rattle.bd_entry.specs.NextEntries.{goes_by_name}
 use Rattle.bd_entry.specs.Refusals.{file_of}
-use Rattle.bd_entry.specs.Rules.{RightFile, place_in}
+use Rattle.bd_entry.specs.Rules.{RightFile}
 use Rattle.bd_entry.specs.Store.{Store}
 use Rattle.bd_entry.proofs.DescriptorSteps.{is_close}
 use Rattle.bd_entry.proofs.StayingFiles.{LeavesThere}
@@ -27,7 +27,7 @@ use Rattle.bd_turns.specs.Turns.{holds_throughout, with_call_ended}
 use Rattle.bd_turns.proofs.ActionsOfCalls.{AloneOn, held_from, holding}
 use Rattle.bd_turns.proofs.CallsAfterTurns.{Ends, Follows, GoesOn, runs_of}
 use Rattle.bd_turns.proofs.EffectiveTurns.{IsGoing, IsHeldFor, Turned, has_ended-by_end, store_with}
-use Rattle.bd_turns.proofs.EntriesOfCalls.{added_made, needs_hold}
+use Rattle.bd_turns.proofs.EntriesOfCalls.{added_made, added_place, needs_hold}
 use Rattle.bd_turns.proofs.FilesOfCalls.{file_of_kept, store_after}
 
 -- ---- entries that a call that goes on does not add
@@ -113,13 +113,8 @@ module _ (v : Volume) (m next : State) (p : Place) (entry : Option Entry) (g : P
       λ same.
       differ
       (t.alone (entries.Unlinked at gone) is refl file q
-      (subst (λ (x : Place). file_of m.store x ≡ Some file) (place_is (entries.Unlinked at gone) is)
+      (subst (λ (x : Place). file_of m.store x ≡ Some file) (added_place v m p (entries.Unlinked at gone) (t.added (entries.Unlinked at gone) is))
       ((t.added (entries.Unlinked at gone) is).next.keeps RightFile ∙ ap Some same)) held)
-    where
-      place_is : (e : Entry) → entry ≡ Some e → place_in m.store p.call (at_of e) ≡ p
-      place_is e is =
-          let a : IsAdded v m p e = t.added e is in
-          ap (λ (at : At). place_in m.store p.call at) a.at_is ∙ ap (λ (es : List Entry). record p { before = es }) a.work_is
   other_leaves q file differ held e is = tt
 
   -- the file of another process's call stays as long as that holds it
