@@ -13,3 +13,4 @@ pub mod RefusalsAfterTurns
 pub mod RefusalsStayAway
 pub mod Revocations
 pub mod RightsOnFiles
+pub mod TruncationsAfterTurns
