@@ -9,6 +9,7 @@ pub mod EntriesOfCalls
 pub mod FilesOfCalls
 pub mod Growing
 pub mod HoldsAfterTurns
+pub mod OwnActs
 pub mod RefusalsAfterTurns
 pub mod RefusalsStayAway
 pub mod Revocations
