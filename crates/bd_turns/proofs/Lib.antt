@@ -9,9 +9,11 @@ pub mod EntriesOfCalls
 pub mod FilesOfCalls
 pub mod Growing
 pub mod HoldsAfterTurns
+pub mod Invalidations
 pub mod OwnActs
 pub mod RefusalsAfterTurns
 pub mod RefusalsStayAway
 pub mod Revocations
+pub mod RightsAfterTurns
 pub mod RightsOnFiles
 pub mod TruncationsAfterTurns
