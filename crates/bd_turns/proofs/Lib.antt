@@ -4,6 +4,7 @@ pub mod Cases
 pub mod CallsAfterTurns
 pub mod Determined
 pub mod EffectiveTurns
+pub mod EndsOfRevocations
 pub mod EngineSteps
 pub mod EntriesOfCalls
 pub mod FilesOfCalls

@@ -118,7 +118,7 @@ module _ (v : Volume) (m next : State) (p : Place) (entry : Option Entry) (g : P
       by call other made of here = absurd (false≢true made)
 
   -- a size is set of the file of the call
-  sized_file : (at : At) (fd size : ℕ) (d : Descriptor) → entry ≡ Some (entries.Sized at fd size) → descriptor_at m.store at.process fd ≡ Some d →
+  pub sized_file : (at : At) (fd size : ℕ) (d : Descriptor) → entry ≡ Some (entries.Sized at fd size) → descriptor_at m.store at.process fd ≡ Some d →
       file_of m.store p ≡ Some d.file
   sized_file at fd size d is there =
       let e : Entry = entries.Sized at fd size in
