@@ -11,10 +11,12 @@ pub mod FilesOfCalls
 pub mod Growing
 pub mod HoldsAfterTurns
 pub mod Invalidations
+pub mod KeysOfCalls
 pub mod OwnActs
 pub mod RefusalsAfterTurns
 pub mod RefusalsStayAway
 pub mod Revocations
+pub mod RevokedAfterTurns
 pub mod RightsAfterTurns
 pub mod RightsOnFiles
 pub mod TruncationsAfterTurns
