@@ -13,6 +13,7 @@ pub mod HoldsAfterTurns
 pub mod Invalidations
 pub mod KeysOfCalls
 pub mod OwnActs
+pub mod PostedAfterTurns
 pub mod RefusalsAfterTurns
 pub mod RefusalsStayAway
 pub mod Revocations
