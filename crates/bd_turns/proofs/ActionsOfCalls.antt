@@ -1,8 +1,8 @@
 -- What the action of a processor tells of its call: nothing keeps it from beginning, and no other process holds its file.
-use Rattle.std.proofs.Common.{◌≡◌, ◌≢◌, ◌⊎◌, inl, inr, ℕ, zero, suc, ◌<◌, Bool, true, false, not, ◌||◌, ◌&&◌, cond, List, [], ◌∷◌, ◌++◌, length, Option, None, Some, refl, sym, ap, ◌∙◌, subst, arith, ⊎_elim}
-use Rattle.std.specs.Prelude.{is_some, nat_eq, position, slice_index_or, All}
-use Rattle.std.specs.Option.{option_and_then, option_map, option_map_or, option_or}
-use Rattle.std.specs.List.{find, list_any}
+use Rattle.std.proofs.Common.{◌≡◌, ◌⊎◌, inl, inr, ℕ, zero, suc, ◌<◌, Bool, true, false, not, ◌&&◌, cond, List, [], ◌∷◌, length, Option, None, Some, refl, sym, ap, ◌∙◌, subst, arith, ⊎_elim}
+use Rattle.std.specs.Prelude.{is_some, nat_eq, slice_index_or, All}
+use Rattle.std.specs.Option.{option_and_then, option_map_or, option_or}
+use Rattle.std.specs.List.{list_any}
 use Rattle.std.proofs.lemmas.Bool.{both_ways, cases_Bool, eq-eqb, eqb-true, false≢true, or_parts}
 use Rattle.std.proofs.lemmas.List.Elements.{All-head}
 use Rattle.std.proofs.lemmas.List.Quantifiers.{position-Some}
@@ -10,19 +10,17 @@ use Rattle.std.proofs.lemmas.Option.{none-some, same_Some}
 use Rattle.bd_base.specs.declared.key.Key.{Key}
 use Rattle.bd_base.specs.declared.reason.Reason.{Reason}
 use Rattle.bd_base.specs.declared.script.Call.{Call}
-use Rattle.bd_base.specs.declared.script.Call.TheVariants.{Enter, Create, Read, Write, Truncate, Unlink, Size, Map, Close, RawRead, RawWrite}
+use Rattle.bd_base.specs.declared.script.Call.TheVariants.{Enter, Read, Write, Truncate, Unlink, Map, Close, RawRead, RawWrite}
 use Rattle.bd_entry.specs.declared.act.Act.{Act}
 use Rattle.bd_entry.specs.declared.act.Act.TheVariants as acts
 use Rattle.bd_entry.specs.declared.entry.Entry.{Entry}
-use Rattle.bd_entry.specs.declared.entry.Entry.TheVariants as entries
 use Rattle.bd_entry.specs.Actions.{Holders, before_beginning, busy, busy_at_first, comes_before_holder, entry_of_act, has_begun, is_none_of, keys_to_revoke, next_act, own_act, revoke, tests_for_holder, wait_for}
-use Rattle.bd_entry.specs.Calls.{Place, is_made_by, piece_of_call, pieces_of_call}
+use Rattle.bd_entry.specs.Calls.{Place, pieces_of_call}
 use Rattle.bd_entry.specs.Promises.{is_whole_refusal}
-use Rattle.bd_entry.specs.Refusals.{descriptor_of, file_of, first_refusal}
+use Rattle.bd_entry.specs.Refusals.{file_of, first_refusal}
 use Rattle.bd_entry.specs.Store.{Store}
 use Rattle.bd_entry.proofs.Holders.{is_some-position}
-use Rattle.bd_entry.proofs.NextActs.{busy_adds_none, map_from, or_from_either, then_from}
-use Rattle.bd_entry.proofs.NextPieces.{submitted_adds_none}
+use Rattle.bd_entry.proofs.NextActs.{map_from, or_from_either, then_from}
 use Rattle.bd_turns.specs.declared.turn.Row.{Row}
 use Rattle.bd_turns.specs.declared.turn.Wait.{Wait}
 use Rattle.bd_turns.specs.Processors as processors

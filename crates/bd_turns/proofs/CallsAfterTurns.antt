@@ -1,21 +1,20 @@
 -- The running calls of all processes after an effective turn: they stay, but for the one in whose name the turn was, which
 -- goes on or ends.
-use Rattle.std.proofs.Common.{◌≡◌, ◌≢◌, ◌⊎◌, inl, inr, ℕ, zero, suc, ◌+◌, ◌<◌, Bool, true, false, cond, List, [], ◌∷◌, ◌++◌, length, Option, None, Some, refl, sym, ap, ◌∙◌, subst, arith, ⊎_elim}
-use Rattle.std.specs.Prelude.{nat_eq, ◌&&◌, slice_index_or, slice_set, slice_get}
+use Rattle.std.proofs.Common.{◌≡◌, ◌≢◌, ◌⊎◌, inl, inr, ℕ, ◌+◌, ◌<◌, Bool, true, false, cond, List, [], ◌∷◌, ◌++◌, length, Option, None, Some, refl, sym, ap, ◌∙◌, subst, arith, ⊎_elim}
+use Rattle.std.specs.Prelude.{nat_eq}
 use Rattle.std.specs.Option.{option_map, option_to_list}
-use Rattle.std.proofs.lemmas.Bool.{and_left, and_parts, and_right, both_ways, cases_Bool, ne_eqb}
-use Rattle.std.proofs.lemmas.List.{append-nil, get_or-set_other, get_or-set_same, length-set}
-use Rattle.std.proofs.lemmas.Option.{none-some, same_Some}
+use Rattle.std.proofs.lemmas.Bool.{and_parts, and_right, both_ways, cases_Bool, ne_eqb}
+use Rattle.std.proofs.lemmas.List.{append-nil, get_or-set_other, get_or-set_same}
 use Rattle.bd_base.specs.declared.journal.At.{At}
 use Rattle.bd_base.specs.declared.script.Call.{Call}
 use Rattle.bd_base.specs.declared.script.Script.{Script}
 use Rattle.bd_entry.specs.declared.entry.Entry.{Entry}
 use Rattle.bd_entry.specs.Actions.{is_none_of}
-use Rattle.bd_entry.specs.Calls.{Place, at_of, call_at, entries_of, is_ended_by, pieces_of_call, same_call}
+use Rattle.bd_entry.specs.Calls.{Place, at_of, call_at, entries_of, is_ended_by, same_call}
 use Rattle.bd_entry.proofs.CallOrder.{entries_of-joined, entries_of-other, other_process, same_self}
 use Rattle.bd_entry.proofs.HistoryLaws.{process_there}
 use Rattle.bd_entry.proofs.NextActs.{map_from}
-use Rattle.bd_turns.specs.Sound.{AreCallsSound, AreCommandsOfCalls, AreInTurn, HasProcesses}
+use Rattle.bd_turns.specs.Sound.{AreCallsSound, HasProcesses}
 use Rattle.bd_turns.specs.State.{Progress, State, has_ended, outstanding, place_of, progress_of, running, running_at, with_progress}
 use Rattle.bd_turns.specs.Turns.{after_effect, with_call_ended, with_turn_used}
 

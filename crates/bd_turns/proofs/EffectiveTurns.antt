@@ -1,9 +1,9 @@
 -- What every effective turn does to calls, holds and the store, told once for all kinds of turns.
-use Rattle.std.proofs.Common.{◌≡◌, ◌≢◌, ◌⊎◌, inl, inr, ℕ, ◌+◌, ◌<◌, Bool, true, false, not, ◌||◌, ◌&&◌, cond, List, [], ◌∷◌, ◌++◌, length, Option, None, Some, refl, sym, ap, ◌∙◌, subst, ⊎_elim}
-use Rattle.std.specs.Prelude.{nat_eq, drop, slice_get}
-use Rattle.std.specs.Option.{option_and_then, option_map, option_to_list}
+use Rattle.std.proofs.Common.{◌≡◌, ◌≢◌, ◌⊎◌, inl, inr, ℕ, ◌<◌, Bool, true, false, not, ◌&&◌, cond, List, [], ◌∷◌, ◌++◌, length, Option, None, Some, refl, sym, ap, ◌∙◌, subst, ⊎_elim}
+use Rattle.std.specs.Prelude.{drop}
+use Rattle.std.specs.Option.{option_to_list}
 use Rattle.std.specs.List.{list_any}
-use Rattle.std.proofs.lemmas.Bool.{and_from, and_parts, both_ways, cases_Bool, false≢true, or_left, or_right}
+use Rattle.std.proofs.lemmas.Bool.{and_from, both_ways, cases_Bool, false≢true, or_left, or_right}
 use Rattle.std.proofs.lemmas.List.{append-nil, get_or-set_other, get_or-set_same, length-set}
 use Rattle.std.proofs.lemmas.List.Folds.{list_any-append}
 use Rattle.std.proofs.lemmas.Option.{none-some, same_Some}
@@ -14,29 +14,27 @@ use Rattle.bd_base.specs.declared.volume.Volume.{Volume}
 use Rattle.bd_entry.specs.declared.entry.Entry.{Entry}
 use Rattle.bd_entry.specs.declared.entry.Entry.TheVariants as entries
 use Rattle.bd_entry.specs.Actions.{has_begun, is_none_of}
-use Rattle.bd_entry.specs.Calls.{Place, at_of, call_at, is_end_of, is_ended_by, is_made_by, pieces_of_call}
+use Rattle.bd_entry.specs.Calls.{Place, at_of, is_end_of, is_ended_by, pieces_of_call}
 use Rattle.bd_entry.specs.Effects.{effect_of}
 use Rattle.bd_entry.specs.Promises.{is_whole_refusal}
 use Rattle.bd_entry.specs.Refusals.{file_of, first_refusal}
 use Rattle.bd_entry.specs.Rules.{place_in}
 use Rattle.bd_entry.specs.Store.{Store}
-use Rattle.bd_entry.proofs.NextActs.{map_from, then_from}
 use Rattle.bd_tables.specs.State.{TableState}
 use Rattle.bd_turns.specs.declared.turn.Row.{Row}
 use Rattle.bd_turns.specs.declared.turn.Row.TheVariants as rows
-use Rattle.bd_turns.specs.Added.{AddsAt, EntriesAreNext, IsAdded, by_engine, by_invalidation, by_processor}
-use Rattle.bd_turns.specs.Engines as engines
-use Rattle.bd_turns.specs.Engines.{Step, engine_step, invalidation_of}
+use Rattle.bd_turns.specs.Added.{IsAdded}
+use Rattle.bd_turns.specs.Engines.{Step, engine_step}
 use Rattle.bd_turns.specs.Processors as processors
 use Rattle.bd_turns.specs.Processors.{next_action, row_of_entry, running_of}
 use Rattle.bd_turns.specs.Reached.{IsReached}
 use Rattle.bd_turns.specs.Sound.{keeps_allowed}
-use Rattle.bd_turns.specs.State.{Posted, Progress, State, has_ended, outstanding, place_of, progress_of, running, running_at, with_progress}
-use Rattle.bd_turns.specs.Turns.{after_adding, after_effect, after_ending, after_polling, after_posting, after_row, after_step, after_submitting, holds_after, holds_throughout, posting_place, tables_after, with_entry, with_entry_if_any, with_hold}
-use Rattle.bd_turns.proofs.ActionsOfCalls.{Ahead, AloneOn, IsPassed, ahead, no_commands, passed-allowed, passed-alone, throughout-no_pieces}
-use Rattle.bd_turns.proofs.CallsAfterTurns.{Follows, Prepares, follows, runs_at, runs_within}
+use Rattle.bd_turns.specs.State.{Progress, State, has_ended, outstanding, progress_of, running, with_progress}
+use Rattle.bd_turns.specs.Turns.{after_adding, after_effect, after_ending, after_polling, after_posting, after_step, after_submitting, holds_after, holds_throughout, tables_after, with_entry, with_entry_if_any, with_hold}
+use Rattle.bd_turns.proofs.ActionsOfCalls.{Ahead, AloneOn, ahead, no_commands, passed-allowed, passed-alone, throughout-no_pieces}
+use Rattle.bd_turns.proofs.CallsAfterTurns.{Follows, Prepares, follows, runs_within}
 use Rattle.bd_turns.proofs.EngineSteps.{is_of_device, step_keeps}
-use Rattle.bd_turns.proofs.EntriesOfCalls.{added_made, alone_adding, needs_hold, passed-file}
+use Rattle.bd_turns.proofs.EntriesOfCalls.{alone_adding, needs_hold, passed-file}
 use Rattle.bd_turns.proofs.FilesOfCalls.{store_after}
 
 -- the store after the entry of this call, if any
@@ -216,11 +214,13 @@ module _ (v : Volume) (m : State) (reached : IsReached v m) (p : Place) (runs : 
             record {
               held = λ file is.
                   let after = held_after (holds_after p.call row) (file_of s p) file is in
-                  inr (after.1,
-                  ⊎_elim
-                  (λ through. passed-alone m p calls holds.held_once holds.begun_holding runs (throughout through).passes through)
-                  (λ needs. alone_adding v m p row e calls holds runs added acting needs)
-                  (extends p.call e (ap (holds_after p.call) row_is ∙ after.0)));
+                  inr (
+                    after.1,
+                    ⊎_elim
+                        (λ through. passed-alone m p calls holds.held_once holds.begun_holding runs (throughout through).passes through)
+                        (λ needs. alone_adding v m p row e calls holds runs added acting needs)
+                        (extends p.call e (ap (holds_after p.call) row_is ∙ after.0)),
+                  );
               through = λ through some.
                   let file = passed-file m p calls holds.begun_holding runs (throughout through).passes through in
                   (file.0, file.1, ap (λ (b : Bool). cond b (file_of s p) None) (throughout-after p.call row through) ∙ file.1);
@@ -241,10 +241,11 @@ module _ (v : Volume) (m : State) (reached : IsReached v m) (p : Place) (runs : 
       let calls = reached.sound.calls in
       let holds = reached.sound.holds_are in
       let k : State = record m { posted = m.posted ++ (record { key = key; by = p.at }) ∷ [] } in
+      let g : Progress = with_hold p.call rows.Post (file_of s p) old in
       let passes = (ahead m p (processors.Posts key) acting refl).passes in
       record {
         runs = runs;
-        follows = follows-set k None (with_hold p.call rows.Post (file_of s p) old) refl (sym (append-nil m.journal)) refl (λ x is. absurd (none-some x is)) refl;
+        follows = follows-set k None g refl (sym (append-nil m.journal)) refl (λ x is. absurd (none-some x is)) refl;
         store = refl;
         added = λ x is. absurd (none-some x is);
         commands = λ x is none. absurd (none-some x is);

@@ -1,10 +1,10 @@
 -- No call ends while a right that it cleared is still attached.
-use Rattle.std.proofs.Common.{◌≡◌, ◌≢◌, ◌⊎◌, inl, inr, ℕ, ◌<◌, Bool, true, false, not, ◌||◌, ◌&&◌, cond, List, [], ◌∷◌, ◌++◌, Option, None, Some, refl, sym, ap, ◌∙◌, subst, arith, ⊎_elim}
+use Rattle.std.proofs.Common.{◌≡◌, ◌≢◌, ℕ, ◌<◌, Bool, true, false, not, ◌&&◌, cond, List, [], ◌∷◌, ◌++◌, Option, None, Some, refl, sym, ap, ◌∙◌, subst, arith, ⊎_elim}
 use Rattle.std.specs.Prelude.{nat_lt}
 use Rattle.std.specs.Option.{option_and_then, option_map_or, option_or, option_to_list}
 use Rattle.std.specs.List.{list_any}
 use Rattle.std.specs.FinMap as fin
-use Rattle.std.proofs.lemmas.Bool.{and_from, both_ways, cases_Bool, false≢true, false_from_ne_true, ltb-true, or_cases, or_parts}
+use Rattle.std.proofs.lemmas.Bool.{and_from, both_ways, cases_Bool, false≢true, false_from_ne_true, ltb-true, or_cases, or_left, or_right}
 use Rattle.std.proofs.lemmas.List.{append-nil}
 use Rattle.std.proofs.lemmas.List.Folds.{list_any-append}
 use Rattle.std.proofs.lemmas.Option.{none-some, same_Some}
@@ -20,30 +20,28 @@ use Rattle.bd_base.specs.declared.volume.Volume.{Volume}
 use Rattle.bd_base.specs.Inodes.{growth_refusal}
 use Rattle.bd_entry.specs.declared.entry.Entry.{Entry}
 use Rattle.bd_entry.specs.declared.entry.Entry.TheVariants as entries
-use Rattle.bd_entry.specs.Actions.{has_begun, is_none_of}
+use Rattle.bd_entry.specs.Actions.{is_none_of}
 use Rattle.bd_entry.specs.Calls.{Place, at_of, fd_of_call, is_end_of, is_ended_by, is_made_by}
 use Rattle.bd_entry.specs.Refusals.{file_of, first_refusal, growth_reason, growth_reason_of, refusal_of, truncation_goal}
 use Rattle.bd_entry.specs.Rules.{NotRefused, RightFile, Rights, WithinLimit, place_in}
-use Rattle.bd_entry.specs.RulesOfCalls.{IsOfCall, OpensAs}
+use Rattle.bd_entry.specs.RulesOfCalls.{MayClear, OpensAs}
 use Rattle.bd_entry.specs.RulesOfContents.{AsksForSize}
-use Rattle.bd_entry.specs.RulesOfRights.{HasNoRights, NoRightsWherePlain, TheDescriptor}
-use Rattle.bd_entry.specs.Store.{Descriptor, Store, descriptor_at, file_in, has_part, has_rights_on, size_in}
+use Rattle.bd_entry.specs.RulesOfRights.{HasNoRights, NoRightsWherePlain}
+use Rattle.bd_entry.specs.Store.{Descriptor, descriptor_at, file_in, has_part, has_rights_on, size_in}
 use Rattle.bd_entry.proofs.Accesses.{of_call-in_store}
 use Rattle.bd_entry.proofs.Descriptors.{rights-on}
-use Rattle.bd_entry.proofs.NextActs.{or_from_either, then_from}
+use Rattle.bd_entry.proofs.NextActs.{then_from}
 use Rattle.bd_entry.proofs.NextCloses.{keys_on-none}
 use Rattle.bd_entry.proofs.NextFiles.{cond_from}
 use Rattle.bd_tables.specs.declared.state.Right.{Right}
-use Rattle.bd_turns.specs.Added.{IsAdded}
-use Rattle.bd_turns.specs.Processors.{running_of}
 use Rattle.bd_turns.specs.Reached.{IsReached}
-use Rattle.bd_turns.specs.Sound.{IsRightOf, is_clear, is_clear_at, is_release, is_revoked, keeps_allowed}
+use Rattle.bd_turns.specs.Sound.{IsRightOf, is_clear, is_clear_at, is_release, keeps_allowed}
 use Rattle.bd_turns.specs.State.{Progress, State, has_ended, outstanding, progress_of, running}
 use Rattle.bd_turns.specs.Turns.{holds_throughout}
 use Rattle.bd_turns.proofs.ActionsOfCalls.{no_commands, throughout-no_pieces}
 use Rattle.bd_turns.proofs.CallsAfterTurns.{Ends}
 use Rattle.bd_turns.proofs.EffectiveTurns.{Turned}
-use Rattle.bd_turns.proofs.EntriesOfCalls.{ClearsKey, added_made, added_place, cleared_by, clears-throughout}
+use Rattle.bd_turns.proofs.EntriesOfCalls.{ClearsKey, added_place, cleared_by, clears-throughout}
 use Rattle.bd_turns.proofs.TruncationsAfterTurns as truncations
 
 -- ---- the entry that ends a call
@@ -77,8 +75,8 @@ any-wider : {X : Type 0} (test wider : X → Bool) (xs : List X) → ((x : X) �
 any-wider test wider [] passes some = absurd (false≢true some)
 any-wider test wider (x ∷ xs) passes some =
     ⊎_elim
-    (λ here. Rattle.std.proofs.lemmas.Bool.or_left (wider x) (list_any wider xs) (passes x here))
-    (λ later. Rattle.std.proofs.lemmas.Bool.or_right (wider x) (list_any wider xs) (any-wider test wider xs passes later))
+    (λ here. or_left (wider x) (list_any wider xs) (passes x here))
+    (λ later. or_right (wider x) (list_any wider xs) (any-wider test wider xs passes later))
     (or_cases (test x) (list_any test xs) some)
 
 module _ (v : Volume) (m next : State) (p : Place) (entry : Option Entry) (g : Progress) (reached : IsReached v m) (t : Turned v m next p entry g) where
@@ -188,7 +186,7 @@ module _ (v : Volume) (m next : State) (p : Place) (entry : Option Entry) (g : P
         subst (λ (c : Call). fd_of_call c p.before ≡ Some number) call
         (subst (λ (x : Place). fd_of_call x.call x.before ≡ Some number) (added_place v m p e a)
         (of_call-in_store v m.script m.journal m.store p.call e a.next).fields) in
-        let may = subst (λ (c : Call). Rattle.bd_entry.specs.RulesOfCalls.MayClear c process key.process key.fd) call clearing.may in
+        let may = subst (λ (c : Call). MayClear c process key.process key.fd) call clearing.may in
         let bare = a.next.keeps Rights in
         let there = the_right in
         let mine : at.process ≡ process = ap (λ (x : At). x.process) a.at_is in

@@ -6,7 +6,7 @@ use Rattle.bd_base.specs.Pieces.{Piece}
 use Rattle.bd_entry.specs.declared.entry.Entry.{Entry}
 use Rattle.bd_entry.specs.declared.entry.Entry.TheVariants as entries
 use Rattle.bd_entry.specs.Calls.{Place, fd_of, piece_of_call}
-use Rattle.bd_entry.specs.Store.{descriptor_at}
+use Rattle.bd_entry.specs.Store.{Descriptor, Store, descriptor_at}
 use Rattle.bd_entry.proofs.NextActs.{map_from, then_from}
 use Rattle.bd_tables.specs.declared.request.Completion.{Completion}
 use Rattle.bd_tables.specs.State.{TableState, found_of, told_of, walk_at}
@@ -39,9 +39,15 @@ take_keeps : (m : State) (p : Place) (progress : Progress) (step : Step) (submit
     take_command m.tables p progress submitted ≡ Some step → StepKeeps m.tables progress step × (submitted ≢ [])
 take_keeps m p progress step [] is = absurd (none-some step is)
 take_keeps m p progress step (number ∷ rest) is =
-    let found = map_from (enter m.tables progress number rest) (request_of_piece p number) step is in
-    (subst (StepKeeps m.tables progress) found.2 (record { rights = refl; ended = refl; held = refl; device = λ e is. no_entry e is }),
-    λ none. let no : number ∷ rest ≡ [] = none in cc)
+    let found = map_from (enter m.tables progress number rest) (request_of_piece p number) step is in (
+      subst (StepKeeps m.tables progress) found.2 (record { rights = refl; ended = refl; held = refl; device = λ e is. no_entry e is }),
+      λ none. let no : number ∷ rest ≡ [] = none in cc,
+    )
+
+-- the entry of a direct access is one of a device
+access_device : (s : Store) (p : Place) (number fd : ℕ) (piece : Piece) (block : ℕ) (d : Descriptor) (e : Entry) →
+    move_entry s p number fd piece block d ≡ e → is_of_device e ≡ true
+access_device s p number fd piece block d e is = ap is_of_device (sym is)
 
 -- the entry of a moved piece is an access
 move_keeps : (m : State) (p : Place) (progress : Progress) (step : Step) (number : ℕ) (completion : Completion) →
@@ -61,7 +67,8 @@ move_keeps m p progress step number completion is =
       rights = refl;
       ended = refl;
       held = refl;
-      device = λ e is. ap is_of_device (sym (d.2 ∙ same_Some moved.0 e is));
+      device = λ e is.
+          ap is_of_device (sym (same_Some moved.0 e is)) ∙ access_device m.store p number fd.0 piece.0 completion.block d.0 moved.0 d.2;
     })
 
 go_keeps : (m : State) (p : Place) (progress : Progress) (step : Step) (number : ℕ) (phase : Phase) → go_on m p progress number phase ≡ Some step →
@@ -104,14 +111,17 @@ step_keeps m p step is = by progress.hand refl is
     by None none is =
         let g = progress_of m p.at.process in
         let takes = take_keeps m p g step g.submitted is in
-        let done : List ℕ = map (λ (done : Completed). done.piece) g.completed in
-        (takes.0,
-        λ nothing. takes.1 (both_nil (done ++ pieces_in_hand g.hand) g.submitted nothing).1)
+        let done : List ℕ = map (λ (done : Completed). done.piece) g.completed in (
+          takes.0,
+          λ nothing. takes.1 (both_nil (done ++ pieces_in_hand g.hand) g.submitted nothing).1,
+        )
     by (Some hand) some is =
         let g = progress_of m p.at.process in
-        let done : List ℕ = map (λ (done : Completed). done.piece) g.completed in
-        (go_keeps m p g step hand.piece hand.phase is,
-        λ nothing.
-        let rest : pieces_in_hand g.hand ≡ [] = (both_nil done (pieces_in_hand g.hand) (both_nil (done ++ pieces_in_hand g.hand) g.submitted nothing).0).1 in
-        let no : hand.piece ∷ [] ≡ [] = sym (ap pieces_in_hand some) ∙ rest in
-        cc)
+        let done : List ℕ = map (λ (done : Completed). done.piece) g.completed in (
+          go_keeps m p g step hand.piece hand.phase is,
+          λ nothing.
+              let front : done ++ pieces_in_hand g.hand ≡ [] = (both_nil (done ++ pieces_in_hand g.hand) g.submitted nothing).0 in
+              let rest : pieces_in_hand g.hand ≡ [] = (both_nil done (pieces_in_hand g.hand) front).1 in
+              let no : hand.piece ∷ [] ≡ [] = sym (ap pieces_in_hand some) ∙ rest in
+              cc,
+        )

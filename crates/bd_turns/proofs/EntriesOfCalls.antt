@@ -1,22 +1,20 @@
 -- Which entries come only from calls whose file no other process holds, and which calls clear rights.
-use Rattle.std.proofs.Common.{◌≡◌, ◌≢◌, ◌⊎◌, inl, inr, ℕ, Bool, true, false, not, List, [], ◌∷◌, ◌++◌, Option, None, Some, refl, sym, ap, ◌∙◌, subst, ⊎_elim}
+use Rattle.std.proofs.Common.{◌≡◌, ◌⊎◌, inl, inr, ℕ, Bool, true, false, not, List, [], ◌∷◌, ◌++◌, Option, None, Some, refl, sym, ap, ◌∙◌, subst, ⊎_elim}
 use Rattle.std.specs.Prelude.{is_some}
 use Rattle.std.specs.Option.{option_and_then, option_map, option_map_or, option_or}
 use Rattle.std.specs.List.{find, list_any}
 use Rattle.std.proofs.lemmas.Bool.{false≢true, or_cases}
-use Rattle.std.proofs.lemmas.Option.{none-some, same_Some}
+use Rattle.std.proofs.lemmas.Option.{none-some}
 use Rattle.bd_base.specs.declared.journal.At.{At}
 use Rattle.bd_base.specs.declared.key.Key.{Key}
 use Rattle.bd_base.specs.declared.reason.Reason.{Reason}
 use Rattle.bd_base.specs.declared.reason.Reason.TheVariants as reasons
 use Rattle.bd_base.specs.declared.script.Call.{Call}
 use Rattle.bd_base.specs.declared.script.Call.TheVariants.{Enter, Create, Read, Write, Truncate, Unlink, Size, Map, Close, RawRead, RawWrite}
-use Rattle.bd_base.specs.declared.script.How.TheVariants as hows
 use Rattle.bd_base.specs.declared.volume.Volume.{Volume}
 use Rattle.bd_base.specs.Inodes.{id_of}
 use Rattle.bd_base.specs.Keys.{same_key-is}
 use Rattle.bd_entry.specs.declared.act.Act.{Act}
-use Rattle.bd_entry.specs.declared.act.Act.TheVariants as acts
 use Rattle.bd_entry.specs.declared.entry.Entry.{Entry}
 use Rattle.bd_entry.specs.declared.entry.Entry.TheVariants as entries
 use Rattle.bd_entry.specs.Actions.{busy, entry_of_act, kernel_part, keys_to_revoke, move_piece, own_act, piece_numbers, revoke, submit_or_poll}
@@ -36,10 +34,10 @@ use Rattle.bd_turns.specs.declared.turn.Row.{Row}
 use Rattle.bd_turns.specs.Added.{IsAdded}
 use Rattle.bd_turns.specs.Processors as processors
 use Rattle.bd_turns.specs.Processors.{action_for, next_action, running_of}
-use Rattle.bd_turns.specs.Sound.{AreBegunHolding, AreCallsSound, AreHoldsSound, IsHeldOnce, is_clear_at}
-use Rattle.bd_turns.specs.State.{State, holder_of, outstanding, progress_of, running}
+use Rattle.bd_turns.specs.Sound.{AreBegunHolding, AreCallsSound, AreHoldsSound, is_clear_at}
+use Rattle.bd_turns.specs.State.{State, holder_of, running}
 use Rattle.bd_turns.specs.Turns.{holds_throughout}
-use Rattle.bd_turns.proofs.ActionsOfCalls.{Ahead, AloneOn, IsPassed, adds_for, ahead, alone_tested, empty-unbegun, no_commands, own_or_revoke, passed-alone, throughout-no_pieces, unbegun_passed}
+use Rattle.bd_turns.proofs.ActionsOfCalls.{Ahead, AloneOn, IsPassed, adds_for, ahead, alone_tested, empty-unbegun, no_commands, passed-alone, throughout-no_pieces, unbegun_passed}
 use Rattle.bd_turns.proofs.CallsAfterTurns.{runs_at}
 use Rattle.bd_turns.proofs.Revocations.{revokes-adds}
 

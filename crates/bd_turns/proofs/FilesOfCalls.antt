@@ -1,9 +1,8 @@
 -- The file of a call stays as entries of any call are added: its descriptor stays open, or its name is still that file's.
-use Rattle.std.proofs.Common.{◌≡◌, ◌≢◌, ◌⊎◌, inl, inr, ℕ, zero, suc, ◌<◌, Bool, true, false, List, [], ◌∷◌, ◌++◌, length, arith, Option, None, Some, refl, sym, ap, ◌∙◌, subst, ⊎_elim}
+use Rattle.std.proofs.Common.{◌≡◌, ◌≢◌, ℕ, zero, suc, ◌<◌, true, false, List, [], ◌∷◌, ◌++◌, length, arith, Option, None, Some, refl, sym, ap, ◌∙◌, subst, ⊎_elim}
 use Rattle.std.specs.Prelude.{is_some, slice_index_or, slice_set}
 use Rattle.std.specs.Option.{option_and_then, option_map, option_map_or}
-use Rattle.std.specs.Str.{bytes_eq}
-use Rattle.std.proofs.lemmas.Bool.{both_ways, cases_eq, false≢true}
+use Rattle.std.proofs.lemmas.Bool.{both_ways, cases_eq}
 use Rattle.std.proofs.lemmas.List.{get_or-set_same}
 use Rattle.std.proofs.lemmas.List.Quantifiers.{position-Some}
 use Rattle.std.proofs.lemmas.Option.{none-some, same_Some}
@@ -24,7 +23,7 @@ use Rattle.bd_entry.specs.declared.entry.Entry.TheVariants.{Access, Created, Ext
 use Rattle.bd_entry.specs.Calls.{Place, at_of, fd_of_address, fd_of_call, is_ended_by}
 use Rattle.bd_entry.specs.Effects.{after_change, after_telling, effect_of, new_descriptor, tells_size, with_known_size, with_size, with_told_size}
 use Rattle.bd_entry.specs.Laws.{IsNextOf}
-use Rattle.bd_entry.specs.Refusals.{descriptor_of, file_of, file_of_call}
+use Rattle.bd_entry.specs.Refusals.{file_of, file_of_call}
 use Rattle.bd_entry.specs.Rules.{IsOpen, RightFile, place_in}
 use Rattle.bd_entry.specs.RulesOfRights.{HasRightDescriptor, TheDescriptor}
 use Rattle.bd_entry.specs.Store.{Descriptor, Store, Valid, descriptor_at, file_in, in_slot, is_empty_slot, lowest_fd, slots_of, work_of}
@@ -189,7 +188,8 @@ named_found total name files id f valid there named = by (id_of name files) refl
     by : (o : Option ℕ) → id_of name files ≡ o → o ≡ Some id
     by None none =
         let passes : has_name name (inode_at files id) ≡ true = ap (has_name name) there ∙ (bytes_decides name f.name).1 named in
-        absurd (both_ways (has_name name (inode_at files id)) (position-fails (has_name name) files none id (inode_at-within files id (ap is_some there))) passes)
+        let fails = position-fails (has_name name) files none id (inode_at-within files id (ap is_some there)) in
+        absurd (both_ways (has_name name (inode_at files id)) fails passes)
     by (Some k) is =
         let other = found_named name files k is in
         ap Some (valid.names_differ k id other.0 f other.1 there (sym other.2 ∙ named))
@@ -228,12 +228,14 @@ file_of_kept v script journal s call e next q file stays_open leaves of more = b
             option_map (λ (d : Descriptor). d.file) (descriptor_at (store_after s call e) q.at.process fd) ≡ Some file
         of_slot None none is = absurd (none-some file is)
         of_slot (Some d) there is =
-            let kept = descriptor_kept (λ (x : Descriptor). x.file ≡ file) (λ d new same mode was. same ∙ was) s call e (next.keeps IsOpen) q.at.process fd stays_open
+            let kept =
+            descriptor_kept (λ (x : Descriptor). x.file ≡ file) (λ d new same mode was. same ∙ was) s call e (next.keeps IsOpen) q.at.process fd stays_open
             (d, there, same_Some d.file file is) in
             ap (option_map (λ (d : Descriptor). d.file)) kept.1 ∙ ap Some kept.2
 
     by : (c : Call) → file_of_call s c (option_and_then (descriptor_at s q.at.process) (fd_of_call c q.before)) ≡ Some file →
-        file_of_call (store_after s call e) c (option_and_then (descriptor_at (store_after s call e) q.at.process) (fd_of_call c (q.before ++ more))) ≡ Some file
+        file_of_call (store_after s call e) c (option_and_then (descriptor_at (store_after s call e) q.at.process) (fd_of_call c (q.before ++ more)))
+        ≡ Some file
     by (Enter name mode how) is = name_kept v script journal s call e next name file is leaves
     by (Create name perms) is = absurd (none-some file is)
     by (Read fd off len) is = by_fd fd is

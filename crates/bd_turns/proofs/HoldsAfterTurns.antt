@@ -1,8 +1,7 @@
 -- After an effective turn no file is held twice, the holds are of running calls, and calls that have begun hold their files.
-use Rattle.std.proofs.Common.{◌≡◌, ◌≢◌, ◌⊎◌, inl, inr, ℕ, ◌<◌, Bool, true, false, not, ◌||◌, ◌&&◌, List, [], ◌∷◌, ◌++◌, length, Option, None, Some, refl, sym, ap, ◌∙◌, subst, ⊎_elim}
-use Rattle.std.specs.Option.{option_and_then, option_map, option_to_list}
-use Rattle.std.specs.List.{list_any}
-use Rattle.std.proofs.lemmas.Bool.{both_ways, cases_Bool, cases_eq, false≢true, or_left}
+use Rattle.std.proofs.Common.{◌≡◌, ◌≢◌, ℕ, Bool, true, false, List, [], ◌∷◌, ◌++◌, Option, None, Some, refl, sym, ap, ◌∙◌, subst, ⊎_elim}
+use Rattle.std.specs.Option.{option_to_list}
+use Rattle.std.proofs.lemmas.Bool.{both_ways, cases_eq, false≢true}
 use Rattle.std.proofs.lemmas.List.{append-nil}
 use Rattle.std.proofs.lemmas.Option.{none-some, same_Some}
 use Rattle.bd_base.specs.declared.journal.At.{At}
@@ -19,15 +18,14 @@ use Rattle.bd_entry.specs.Rules.{RightFile}
 use Rattle.bd_entry.specs.Store.{Store}
 use Rattle.bd_entry.proofs.DescriptorSteps.{is_close}
 use Rattle.bd_entry.proofs.StayingFiles.{LeavesThere}
-use Rattle.bd_turns.specs.Added.{IsAdded}
 use Rattle.bd_turns.specs.Reached.{IsReached}
 use Rattle.bd_turns.specs.Sound.{AreBegunHolding, AreHoldsOfCalls, IsHeldOnce}
-use Rattle.bd_turns.specs.State.{Progress, State, has_ended, outstanding, progress_of, running}
-use Rattle.bd_turns.specs.Turns.{holds_throughout, with_call_ended}
-use Rattle.bd_turns.proofs.ActionsOfCalls.{AloneOn, held_from, holding}
-use Rattle.bd_turns.proofs.CallsAfterTurns.{Ends, Follows, GoesOn, runs_of}
+use Rattle.bd_turns.specs.State.{Progress, State, has_ended, progress_of, running}
+use Rattle.bd_turns.specs.Turns.{holds_throughout}
+use Rattle.bd_turns.proofs.ActionsOfCalls.{held_from, holding}
+use Rattle.bd_turns.proofs.CallsAfterTurns.{GoesOn, runs_of}
 use Rattle.bd_turns.proofs.EffectiveTurns.{IsGoing, IsHeldFor, Turned, has_ended-by_end, store_with}
-use Rattle.bd_turns.proofs.EntriesOfCalls.{added_made, added_place, needs_hold}
+use Rattle.bd_turns.proofs.EntriesOfCalls.{added_made, added_place}
 use Rattle.bd_turns.proofs.FilesOfCalls.{file_of_kept, store_after}
 
 -- ---- entries that a call that goes on does not add

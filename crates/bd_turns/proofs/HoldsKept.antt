@@ -1,22 +1,18 @@
 -- Every turn keeps what is so of holds and of revocation.
-use Rattle.std.proofs.Common.{◌≡◌, ◌≢◌, ℕ, true, false, List, [], ◌∷◌, ◌++◌, Option, None, Some, refl, sym, ap, ◌∙◌, subst}
-use Rattle.std.specs.Prelude.{drop}
+use Rattle.std.proofs.Common.{◌≡◌, ℕ, false, Option, None, Some, refl, sym, ap, subst}
 use Rattle.std.specs.FinMap as fin
-use Rattle.bd_base.specs.declared.key.Key.{Key}
 use Rattle.bd_base.specs.declared.volume.Volume.{Volume}
 use Rattle.bd_entry.specs.declared.entry.Entry.{Entry}
 use Rattle.bd_entry.specs.declared.entry.Entry.TheVariants as entries
 use Rattle.bd_entry.specs.Calls.{Place}
 use Rattle.bd_entry.specs.Refusals.{file_of}
-use Rattle.bd_tables.specs.State.{Rights, TableState}
-use Rattle.bd_turns.specs.declared.turn.Row.{Row}
+use Rattle.bd_tables.specs.State.{Rights}
 use Rattle.bd_turns.specs.declared.turn.Row.TheVariants as rows
 use Rattle.bd_turns.specs.Added.{EntriesAreNext, by_engine, by_invalidation, by_processor}
-use Rattle.bd_turns.specs.Engines.{Step, engine_step}
 use Rattle.bd_turns.specs.Processors as processors
 use Rattle.bd_turns.specs.Reached.{IsReached, TurnsKeepHolds}
 use Rattle.bd_turns.specs.Sound.{AreHoldsSound}
-use Rattle.bd_turns.specs.State.{Progress, State, progress_of, with_progress}
+use Rattle.bd_turns.specs.State.{Progress, State, progress_of}
 use Rattle.bd_turns.specs.Turns.{after_adding, after_effect, after_ending, after_polling, after_posting, after_step, after_submitting, after_turn, with_entry_if_any, with_hold}
 use Rattle.bd_turns.proofs.ActionsOfCalls.{ahead}
 use Rattle.bd_turns.proofs.Cases.{Effective, Leads, acts, adds, changes, ends, polls, posts, stays, steps, submits, turn_leads}

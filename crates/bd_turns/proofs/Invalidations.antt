@@ -1,27 +1,26 @@
 -- The turns of the invalidation engine, and the posting of a key.
-use Rattle.std.proofs.Common.{◌≡◌, ◌≢◌, ◌⊎◌, inl, inr, ℕ, Bool, true, false, not, cond, List, [], ◌∷◌, ◌++◌, Option, None, Some, refl, sym, ap, ◌∙◌, subst, ⊎_elim}
+use Rattle.std.proofs.Common.{◌≡◌, ◌≢◌, ℕ, Bool, true, false, not, cond, List, [], ◌∷◌, Option, None, Some, refl, sym, ap, ◌∙◌, subst}
 use Rattle.std.specs.Prelude.{nat_eq, position, slice_get, slice_set, drop}
 use Rattle.std.specs.Option.{option_and_then, option_map, option_map_or, option_or}
-use Rattle.std.specs.List.{find, list_any}
+use Rattle.std.specs.List.{list_any}
 use Rattle.std.specs.FinMap as fin
 use Rattle.std.proofs.lemmas.Bool.{both_ways}
 use Rattle.std.proofs.lemmas.Option.{none-some, same_Some}
 use Rattle.bd_base.specs.declared.journal.At.{At}
 use Rattle.bd_base.specs.declared.key.Key.{Key}
-use Rattle.bd_base.specs.declared.script.Call.{Call}
 use Rattle.bd_base.specs.Keys.{key_cmp_total}
 use Rattle.bd_entry.specs.declared.act.Act.{Act}
 use Rattle.bd_entry.specs.declared.act.Act.TheVariants as acts
 use Rattle.bd_entry.specs.declared.entry.Entry.{Entry}
 use Rattle.bd_entry.specs.declared.entry.Entry.TheVariants as entries
-use Rattle.bd_entry.specs.Actions.{entry_of_act, is_none_of, keys_to_revoke, next_act, own_act, revoke}
+use Rattle.bd_entry.specs.Actions.{entry_of_act, is_none_of, keys_to_revoke, own_act, revoke}
 use Rattle.bd_entry.specs.Calls.{Place, call_at, entries_of}
 use Rattle.bd_entry.proofs.NextActs.{map_from, then_from}
 use Rattle.bd_tables.specs.declared.state.Right.{Right}
 use Rattle.bd_tables.specs.declared.state.RightState.{RightState}
 use Rattle.bd_tables.specs.declared.state.RightState.TheVariants as states
 use Rattle.bd_tables.specs.Effects as effects
-use Rattle.bd_tables.specs.State.{Rights, TableState, engines_in}
+use Rattle.bd_tables.specs.State.{TableState, engines_in}
 use Rattle.bd_tables.proofs.Maps.{other_key-change, other_key-remove, same_key-remove}
 use Rattle.bd_turns.specs.declared.turn.Row.{Row}
 use Rattle.bd_turns.specs.declared.turn.Row.TheVariants as rows
@@ -35,7 +34,7 @@ use Rattle.bd_turns.specs.Sound.{ArePosted, is_clear_at, is_revoked}
 use Rattle.bd_turns.specs.State.{Posted, State, holder_of, place_of, progress_of, running}
 use Rattle.bd_turns.specs.Turns.{posting_place}
 use Rattle.bd_turns.proofs.ActionsOfCalls.{Ahead, ahead}
-use Rattle.bd_turns.proofs.CallsAfterTurns.{runs_at, runs_of}
+use Rattle.bd_turns.proofs.CallsAfterTurns.{runs_at}
 use Rattle.bd_turns.proofs.OwnActs.{revokes_just}
 use Rattle.bd_turns.proofs.Revocations.{revokes-posts}
 use Rattle.bd_turns.proofs.RightsAfterTurns.{Changes, IsFront, SetsAt, detaches, moves, other_keys, state_set}
@@ -188,6 +187,10 @@ ends_by m post right entry tables (states.Drained swept) state does = by (positi
 
 -- ---- what that does to rights and requests
 
+-- entries of which one clears the right are some
+some_entries : (key : Key) (xs : List Entry) → list_any (is_clear_at key) xs ≡ true → xs ≢ []
+some_entries key xs some none = both_ways (list_any (is_clear_at key) xs) (ap (list_any (is_clear_at key)) none) some
+
 -- a turn of the invalidation engine that changes the tables moves the right of the request at the front
 pub change_moves : (m next : State) (p : Place) (row : Row) (tables : TableState) → ArePosted m → posting_place m ≡ Some p →
     invalidation_of m.tables m.posted ≡ Some (engines.Changes row tables) → next.tables ≡ tables → next.posted ≡ m.posted →
@@ -200,9 +203,6 @@ change_moves m next p row tables posted place is same posts_same =
       front.runs,
       moves by.post by.rest by.right move.swept front by.right_is move.revoked (move.sets next same) posts_same refl,
     )
-  where
-    some_entries : (key : Key) (xs : List Entry) → list_any (is_clear_at key) xs ≡ true → xs ≢ []
-    some_entries key xs some none = both_ways (list_any (is_clear_at key) xs) (ap (list_any (is_clear_at key)) none) some
 
 -- one that ends a request detaches the right of the one at the front
 pub end_detaches : (m next : State) (p : Place) (entry : Entry) (tables : TableState) → ArePosted m → posting_place m ≡ Some p →
@@ -227,9 +227,6 @@ end_detaches m next p entry tables posted place is same dropped =
           })
           (dropped ∙ ap (drop 1) by.posted_is),
     )
-  where
-    some_entries : (key : Key) (xs : List Entry) → list_any (is_clear_at key) xs ≡ true → xs ≢ []
-    some_entries key xs some none = both_ways (list_any (is_clear_at key) xs) (ap (list_any (is_clear_at key)) none) some
 
 -- ---- posting
 
@@ -258,8 +255,8 @@ posts_unposted m p key acting =
         action_for m p act ≡ Some (processors.Posts key) → unposted m (keys_to_revoke m.store p p.call) ≡ Some key
     by (acts.Busy file holder) later is = absurd (none-some key (ap posted_in (same_Some _ _ is)))
     by (acts.Revoke keys) later is =
-        subst (λ (ks : List Key). unposted m ks ≡ Some key) (revokes_just m.store (holder_of m) (running_of m p) p.call (keys_to_revoke m.store p p.call) keys later)
-        (revokes-posts m p keys key (same_Some _ _ is))
+        let just = revokes_just m.store (holder_of m) (running_of m p) p.call (keys_to_revoke m.store p p.call) keys later in
+        subst (λ (ks : List Key). unposted m ks ≡ Some key) just (revokes-posts m p keys key (same_Some _ _ is))
     by (acts.Submit piece) later is = absurd (none-some key (ap posted_in (same_Some _ _ is)))
     by acts.Poll later is = absurd (not_poll (is_none_of (progress_of m p.at.process).completed) _ (same_Some _ _ is))
     by act later is = absurd (not_entry (entry_of_act m.store p act) is)

@@ -1,10 +1,10 @@
 -- The keys that a call has to revoke: they are of its file, and those of the rights on it that it may clear are among them.
-use Rattle.std.proofs.Common.{◌≡◌, ◌≢◌, ◌⊎◌, inl, inr, ℕ, ◌<◌, Bool, true, false, not, ◌||◌, ◌&&◌, cond, List, [], ◌∷◌, filter, Option, None, Some, refl, sym, ap, ◌∙◌, subst, ⊎_elim}
+use Rattle.std.proofs.Common.{◌≡◌, ℕ, ◌<◌, Bool, true, false, ◌&&◌, cond, List, [], ◌∷◌, filter, Option, None, Some, refl, sym, ap, ◌∙◌}
 use Rattle.std.specs.Prelude.{nat_eq, nat_lt}
 use Rattle.std.specs.Option.{option_and_then, option_map, option_map_or}
-use Rattle.std.specs.List.{find, list_any}
-use Rattle.std.proofs.lemmas.Bool.{and_from, and_parts, cases_Bool, eq-eqb, eqb-true, false≢true, lt-ltb}
-use Rattle.std.proofs.lemmas.Option.{none-some, same_Some}
+use Rattle.std.specs.List.{find}
+use Rattle.std.proofs.lemmas.Bool.{and_from, and_parts, eq-eqb, eqb-true, false≢true, lt-ltb}
+use Rattle.std.proofs.lemmas.Option.{none-some}
 use Rattle.bd_base.specs.declared.key.Key.{Key}
 use Rattle.bd_base.specs.declared.script.Call.{Call}
 use Rattle.bd_base.specs.declared.script.Call.TheVariants.{Enter, Truncate, Close}
@@ -17,7 +17,7 @@ use Rattle.bd_entry.specs.RulesOfCalls.{MayClear}
 use Rattle.bd_entry.specs.Store.{Descriptor, Store, descriptor_at, has_part, size_in}
 use Rattle.bd_turns.specs.Turns.{holds_throughout}
 use Rattle.bd_turns.proofs.EntriesOfCalls.{ClearsKey}
-use Rattle.bd_turns.proofs.RightsOnFiles.{IsKeyWhere, find-none, key_among, key_found}
+use Rattle.bd_turns.proofs.RightsOnFiles.{find-none, find-passes, key_among, key_found}
 
 -- ---- what is found in a filtered list
 
@@ -77,7 +77,7 @@ key_of_call s p check key found = by p.call refl found
         let keep : Key → Bool = λ key. nat_eq key.process p.at.process && nat_eq key.fd fd in
         let both : find (λ k. keep k && check k) (keys_where (λ d. true) s) ≡ Some key = sym (find-filter check keep (keys_where (λ d. true) s)) ∙ found in
         let there = key_found (λ d. true) s (λ k. keep k && check k) key both in
-        let passes = Rattle.bd_turns.proofs.RightsOnFiles.find-passes (λ k. keep k && check k) (keys_where (λ d. true) s) key both in
+        let passes = find-passes (λ k. keep k && check k) (keys_where (λ d. true) s) key both in
         let kept = and_parts (nat_eq key.process p.at.process) (nat_eq key.fd fd) (and_parts (keep key) (check key) passes).0 in
         let same : descriptor_at s p.at.process fd ≡ Some there.d =
         ap (λ (k : ℕ). descriptor_at s k fd) (sym (eqb-true key.process p.at.process kept.0))

@@ -1,9 +1,8 @@
 -- Own acts of calls revoke nothing, and add no entry that clears a right: only a revocation does.
-use Rattle.std.proofs.Common.{◌≡◌, ℕ, Bool, true, false, cond, List, [], ◌∷◌, length, Option, None, Some, refl, sym, ap, ◌∙◌, ⊎_elim}
+use Rattle.std.proofs.Common.{◌≡◌, ℕ, Bool, true, false, cond, List, [], length, Option, None, Some, refl, sym, ap, ◌∙◌, ⊎_elim}
 use Rattle.std.specs.Prelude.{slice_get}
 use Rattle.std.specs.Option.{option_and_then, option_map, option_map_or, option_or}
 use Rattle.std.proofs.lemmas.Bool.{both_ways}
-use Rattle.std.proofs.lemmas.Option.{same_Some}
 use Rattle.bd_base.specs.declared.journal.Way.{Way}
 use Rattle.bd_base.specs.declared.key.Key.{Key}
 use Rattle.bd_base.specs.declared.script.Call.{Call}
@@ -16,7 +15,7 @@ use Rattle.bd_entry.specs.declared.act.Act.{Act}
 use Rattle.bd_entry.specs.declared.act.Act.TheVariants as acts
 use Rattle.bd_entry.specs.declared.entry.Entry.{Entry}
 use Rattle.bd_entry.specs.declared.entry.Entry.TheVariants as entries
-use Rattle.bd_entry.specs.Actions.{Holders, Running, access_entry, access_piece, attach_by, attach_or_map, busy, created_entry, entry_of_act, is_none_of, is_to_shrink, is_untouched, kernel_entry, kernel_part, move_piece, open_file, opened_entry, own_act, released_entry, remove_file, revoke, submit_or_poll, truncate_to, wait_for, write_piece}
+use Rattle.bd_entry.specs.Actions.{Holders, Running, access_entry, access_piece, attach_by, attach_or_map, busy, created_entry, entry_of_act, is_none_of, is_to_shrink, kernel_entry, kernel_part, move_piece, open_file, opened_entry, own_act, remove_file, revoke, submit_or_poll, truncate_to, wait_for, write_piece}
 use Rattle.bd_entry.specs.Calls.{Place, does_write, fd_of, piece_end, piece_of_call}
 use Rattle.bd_entry.specs.Refusals.{descriptor_of, file_of, growth_reason_of, next_size}
 use Rattle.bd_entry.specs.Store.{Descriptor, Store, blocks_in, descriptor_at, file_in, lowest_fd, next_part, size_in}

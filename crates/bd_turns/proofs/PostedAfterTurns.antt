@@ -1,11 +1,10 @@
 -- The posted requests after an effective turn.
-use Rattle.std.proofs.Common.{◌≡◌, ◌≢◌, ◌⊎◌, inl, inr, ℕ, zero, suc, ◌+◌, Bool, true, false, not, ◌||◌, List, [], ◌∷◌, ◌++◌, length, Option, None, Some, refl, sym, ap, ◌∙◌, subst, arith, ⊎_elim}
+use Rattle.std.proofs.Common.{◌≡◌, ◌≢◌, ◌⊎◌, inl, inr, ℕ, zero, suc, Bool, true, false, not, ◌||◌, List, [], ◌∷◌, ◌++◌, length, Option, None, Some, refl, sym, ap, ◌∙◌, subst, arith, ⊎_elim}
 use Rattle.std.specs.Prelude.{slice_get}
-use Rattle.std.specs.List.{find, list_any}
+use Rattle.std.specs.List.{list_any}
 use Rattle.std.specs.FinMap as fin
-use Rattle.std.proofs.lemmas.Bool.{both_ways, cases_Bool, false≢true, not-true, or_left, or_parts, or_right}
+use Rattle.std.proofs.lemmas.Bool.{both_ways, false≢true, not-true, or_left, or_parts, or_right}
 use Rattle.std.proofs.lemmas.Option.{none-some, same_Some}
-use Rattle.bd_base.specs.declared.journal.At.{At}
 use Rattle.bd_base.specs.declared.key.Key.{Key}
 use Rattle.bd_base.specs.declared.volume.Volume.{Volume}
 use Rattle.bd_base.specs.Keys.{same_key}
@@ -16,12 +15,11 @@ use Rattle.bd_entry.proofs.Slots.{some_of}
 use Rattle.bd_tables.specs.declared.state.Right.{Right}
 use Rattle.bd_tables.specs.declared.state.RightState.{RightState}
 use Rattle.bd_tables.specs.declared.state.RightState.TheVariants as states
-use Rattle.bd_turns.specs.Processors.{is_on, is_on_state, is_posted, unposted}
+use Rattle.bd_turns.specs.Processors.{is_on, is_posted, unposted}
 use Rattle.bd_turns.specs.Reached.{IsReached}
 use Rattle.bd_turns.specs.Sound.{ArePosted, IsPostedState, is_clear_at, is_revoked}
 use Rattle.bd_turns.specs.State.{Posted, Progress, State, progress_of, running}
 use Rattle.bd_turns.proofs.ActionsOfCalls.{IsPassed, passed-alone}
-use Rattle.bd_turns.proofs.CallsAfterTurns.{runs_of}
 use Rattle.bd_turns.proofs.EffectiveTurns.{Turned}
 use Rattle.bd_turns.proofs.KeysOfCalls.{IsKeyOf, key_of_call}
 use Rattle.bd_turns.proofs.RevokedAfterTurns as revoked
@@ -51,12 +49,6 @@ request_posts (first ∷ posted) zero post is =
     or_left (same_key first.key post.key) (is_posted posted post.key)
     (ap (λ (x : Posted). same_key x.key post.key) (same_Some first post is) ∙ same_key-self post.key)
 request_posts (first ∷ posted) (suc i) post is = or_right (same_key first.key post.key) (is_posted posted post.key) (request_posts posted i post is)
-
--- the state of a posted right is revoked
-posted-revoked : (number : ℕ) (state : RightState) → IsPostedState number state → is_revoked state ≡ true
-posted-revoked number states.On is = absurd is
-posted-revoked number states.Cleared is = refl
-posted-revoked number (states.Drained swept) is = refl
 
 -- behind the front it is cleared, and so may be at any place
 behind-any : (number other : ℕ) (state : RightState) → IsPostedState (suc number) state → IsPostedState other state
@@ -378,10 +370,11 @@ module _ (v : Volume) (m next : State) (p : Place) (entry : Option Entry) (g : P
             ))
             (joined number post is);
         drained = λ other right swept is state.
-            let front = left_drained other right swept (same other) is state in
-            (front.0,
-            ap (λ (ps : List Posted). slice_get ps 0) posted ∙ first_joined m.posted (record { key = key; by = p.at }) front.0 front.1,
-            front.2);
+            let front = left_drained other right swept (same other) is state in (
+              front.0,
+              ap (λ (ps : List Posted). slice_get ps 0) posted ∙ first_joined m.posted (record { key = key; by = p.at }) front.0 front.1,
+              front.2,
+            );
         held = λ number post right is is_right.
             held_by post (request number post is) right
             (λ was is_was. ap (λ (r : Right). r.file) (same_Some was right (sym is_was ∙ sym (same post.key) ∙ is_right)));

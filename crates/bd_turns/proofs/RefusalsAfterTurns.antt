@@ -1,9 +1,7 @@
 -- After an effective turn no refusal came to hold of a call that has begun, and opens have their files still.
-use Rattle.std.proofs.Common.{◌≡◌, ◌≢◌, ◌⊎◌, inl, inr, ℕ, Bool, true, false, not, ◌||◌, ◌&&◌, List, [], ◌∷◌, ◌++◌, Option, None, Some, refl, sym, ap, ◌∙◌, subst, ⊎_elim}
-use Rattle.std.specs.Option.{option_and_then, option_map, option_or, option_to_list}
-use Rattle.std.specs.List.{list_any}
+use Rattle.std.proofs.Common.{◌≡◌, ◌≢◌, ℕ, true, not, ◌&&◌, List, [], ◌∷◌, ◌++◌, Option, None, Some, refl, sym, ap, ◌∙◌, subst, ⊎_elim}
+use Rattle.std.specs.Option.{option_or, option_to_list}
 use Rattle.std.proofs.lemmas.Bool.{both_ways, cases_eq, false≢true}
-use Rattle.std.proofs.lemmas.List.{append-nil}
 use Rattle.std.proofs.lemmas.Option.{none-some, same_Some}
 use Rattle.bd_base.specs.declared.journal.At.{At}
 use Rattle.bd_base.specs.declared.script.Call.{Call}
@@ -13,10 +11,10 @@ use Rattle.bd_base.specs.declared.volume.Volume.{Volume}
 use Rattle.bd_entry.specs.declared.entry.Entry.{Entry}
 use Rattle.bd_entry.specs.declared.entry.Entry.TheVariants as entries
 use Rattle.bd_entry.specs.Actions.{has_begun, is_none_of}
-use Rattle.bd_entry.specs.Calls.{Place, at_of, is_made_by, is_opened, opened_fd}
+use Rattle.bd_entry.specs.Calls.{Place, at_of, is_opened, opened_fd}
 use Rattle.bd_entry.specs.NextEntries.{goes_by_name}
 use Rattle.bd_entry.specs.Refusals.{file_of, file_of_call, first_refusal}
-use Rattle.bd_entry.specs.Rules.{IsOpen, RightFile, place_in}
+use Rattle.bd_entry.specs.Rules.{IsOpen, RightFile}
 use Rattle.bd_entry.specs.RulesOfRights.{TheDescriptor}
 use Rattle.bd_entry.specs.Store.{Descriptor, Store, descriptor_at}
 use Rattle.bd_entry.proofs.DescriptorSteps.{is_close}
@@ -24,10 +22,10 @@ use Rattle.bd_entry.proofs.StayingFiles.{LeavesThere}
 use Rattle.bd_turns.specs.Processors.{running_of}
 use Rattle.bd_turns.specs.Reached.{IsReached}
 use Rattle.bd_turns.specs.Sound.{AreAllowed, AreOpensOfFiles, is_open, keeps_allowed}
-use Rattle.bd_turns.specs.State.{Progress, State, has_ended, outstanding, progress_of, running}
+use Rattle.bd_turns.specs.State.{Progress, State, outstanding, progress_of, running}
 use Rattle.bd_turns.specs.Turns.{holds_throughout}
 use Rattle.bd_turns.proofs.ActionsOfCalls.{empty-unbegun, no_commands, throughout-no_pieces}
-use Rattle.bd_turns.proofs.CallsAfterTurns.{Ends, Follows, GoesOn, runs_of}
+use Rattle.bd_turns.proofs.CallsAfterTurns.{GoesOn, runs_of}
 use Rattle.bd_turns.proofs.EffectiveTurns.{Turned, store_with}
 use Rattle.bd_turns.proofs.EntriesOfCalls.{added_place}
 use Rattle.bd_turns.proofs.FilesOfCalls.{descriptor_kept, opened_there, store_after}
@@ -181,7 +179,8 @@ module _ (v : Volume) (m next : State) (p : Place) (entry : Option Entry) (g : P
       by : (o : Option Entry) → entry ≡ o → TheDescriptor (descriptor_at (store_with m.store p.call o) q fd) (λ d. d.file ≡ file)
       by None is = has
       by (Some e) is =
-          descriptor_kept (λ d. d.file ≡ file) (λ d new same mode was. same ∙ was) m.store p.call e ((t.added e is).next.keeps IsOpen) q fd (stays_open e is) has
+          let fits = (t.added e is).next.keeps IsOpen in
+          descriptor_kept (λ d. d.file ≡ file) (λ d new same mode was. same ∙ was) m.store p.call e fits q fd (stays_open e is) has
 
   -- the open of another process
   other_opened : (q fd : ℕ) (x : Place) → q ≢ process → running m q ≡ Some x → is_open x.call ≡ true → opened_fd x.before ≡ Some fd →
@@ -209,11 +208,12 @@ module _ (v : Volume) (m next : State) (p : Place) (entry : Option Entry) (g : P
           let same : number ≡ fd = same_Some number fd of in
           let mine : at.process ≡ p.at.process = ap (λ (x : At). x.process) a.at_is in
           let there = opened_there m.store p.call at file number mode how (a.next.keeps IsOpen) in
-          let of_p : file_of m.store p ≡ Some file = subst (λ (x : Place). file_of m.store x ≡ Some file) (added_place v m p e a) (a.next.keeps RightFile) in
-          (there.0,
-          ap (λ (k : ℕ). descriptor_at (store_after m.store p.call e) k fd) (sym mine)
-          ∙ ap (descriptor_at (store_after m.store p.call e) at.process) (sym same) ∙ there.1,
-          of_p ∙ ap Some (sym there.2))
+          let of_p : file_of m.store p ≡ Some file = subst (λ (x : Place). file_of m.store x ≡ Some file) (added_place v m p e a) (a.next.keeps RightFile) in (
+            there.0,
+            ap (λ (k : ℕ). descriptor_at (store_after m.store p.call e) k fd) (sym mine)
+                ∙ ap (descriptor_at (store_after m.store p.call e) at.process) (sym same) ∙ there.1,
+            of_p ∙ ap Some (sym there.2),
+          )
       by_entry e is of = absurd (none-some fd of)
 
       by : (o : Option Entry) → entry ≡ o → opened_fd (option_to_list o) ≡ Some fd →

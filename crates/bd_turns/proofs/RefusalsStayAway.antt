@@ -1,10 +1,10 @@
 -- A call of which no refusal holds is still not refused after an entry that spares its file.
-use Rattle.std.proofs.Common.{◌≡◌, ◌≢◌, ◌⊎◌, inl, inr, ℕ, zero, suc, Bool, true, false, not, ◌||◌, ◌&&◌, List, [], ◌∷◌, ◌++◌, Option, None, Some, refl, sym, ap, ◌∙◌, subst, ⊎_elim}
-use Rattle.std.specs.Prelude.{is_some, nat_eq, nat_lt, slice_index_or, slice_set}
+use Rattle.std.proofs.Common.{◌≡◌, ◌≢◌, ℕ, zero, suc, Bool, true, false, not, ◌||◌, List, [], ◌∷◌, ◌++◌, Option, None, Some, refl, sym, ap, ◌∙◌, ⊎_elim}
+use Rattle.std.specs.Prelude.{is_some, nat_lt, slice_index_or, slice_set}
 use Rattle.std.specs.Option.{option_and_then, option_map, option_map_or, option_or}
 use Rattle.std.specs.List.{list_any}
-use Rattle.std.proofs.lemmas.Bool.{and_left, false≢true, ne_eqb}
-use Rattle.std.proofs.lemmas.Option.{none-some, same_Some}
+use Rattle.std.proofs.lemmas.Bool.{false≢true, ne_eqb}
+use Rattle.std.proofs.lemmas.Option.{none-some}
 use Rattle.bd_base.specs.declared.limits.TheConstants.{FILE_SIZE}
 use Rattle.bd_base.specs.declared.reason.Reason.{Reason}
 use Rattle.bd_base.specs.declared.reason.Reason.TheVariants as reasons
@@ -20,20 +20,20 @@ use Rattle.bd_base.specs.Policy.{open_denial, unlink_denial}
 use Rattle.bd_base.proofs.FileLists.{none-from}
 use Rattle.bd_entry.specs.declared.entry.Entry.{Entry}
 use Rattle.bd_entry.specs.declared.entry.Entry.TheVariants.{Access, Attached, Cleared, Closed, Detached, Opened, Sized}
-use Rattle.bd_entry.specs.Calls.{Place, at_of, fd_of_call, is_ended_by, is_opened}
-use Rattle.bd_entry.specs.Effects.{after_access, after_call, after_change, after_telling, effect_of, new_descriptor, tells_size, with_descriptor_of_call, with_size}
+use Rattle.bd_entry.specs.Calls.{at_of, fd_of_call, is_ended_by, is_opened}
+use Rattle.bd_entry.specs.Effects.{after_access, after_call, after_change, after_telling, tells_size, with_descriptor_of_call, with_size}
 use Rattle.bd_entry.specs.Laws.{IsNextOf}
 use Rattle.bd_entry.specs.NextEntries.{goes_by_name}
 use Rattle.bd_entry.specs.Refusals.{denial, descriptor_refusal, file_of_call, first_refusal, is_read_only, reason_if, truncate_refusal, unlink_denial_of}
 use Rattle.bd_entry.specs.Rules.{IsOpen, place_in}
-use Rattle.bd_entry.specs.Store.{Descriptor, Holder, Store, descriptor_at, file_in, first_open, in_slot, is_empty_slot, is_open_of, lowest_fd, slots_of, user_of, with_descriptor, with_slot, with_work, work_of}
+use Rattle.bd_entry.specs.Store.{Descriptor, Holder, Store, descriptor_at, file_in, first_open, is_empty_slot, is_open_of, lowest_fd, slots_of, user_of, with_descriptor, with_slot, with_work}
 use Rattle.bd_entry.proofs.DescriptorSteps.{access_opens, index_or-set_cases, is_close, sized_opens}
 use Rattle.bd_entry.proofs.Holders.{is_some-first_holder, is_some-position}
 use Rattle.bd_entry.proofs.NextActs.{map_or_from, open_descriptor, or_none}
 use Rattle.bd_entry.proofs.SlotTests.{IgnoresSizes, Spares, none-after}
 use Rattle.bd_entry.proofs.StayingFiles.{LeavesThere}
 use Rattle.bd_turns.specs.Sound.{keeps_allowed}
-use Rattle.bd_turns.proofs.FilesOfCalls.{KeepsInode, RestsOnFile, StandsAs, descriptor_kept, file_stands, found_named, name_kept, store_after}
+use Rattle.bd_turns.proofs.FilesOfCalls.{RestsOnFile, StandsAs, descriptor_kept, file_stands, found_named, name_kept, store_after}
 
 -- ---- users
 
@@ -160,7 +160,8 @@ spares_open s (Cleared at owner fd part) file leaves = λ d is fails. fails
 spares_open s (Detached at owner fd part) file leaves = λ d is fails. fails
 spares_open s e file leaves = tt
 
-unopened_kept : (s : Store) (call : Call) (e : Entry) (file : ℕ) → LeavesUnopened file e → first_open s file ≡ None → first_open (store_after s call e) file ≡ None
+unopened_kept : (s : Store) (call : Call) (e : Entry) (file : ℕ) → LeavesUnopened file e → first_open s file ≡ None →
+    first_open (store_after s call e) file ≡ None
 unopened_kept s call e file leaves none =
     let t = store_after s call e in
     none-from (first_open t file)

@@ -1,8 +1,8 @@
 -- After an effective turn each right that is revoked is being revoked by the holder of its file, and at most one on a file is
 -- not posted.
-use Rattle.std.proofs.Common.{◌≡◌, ◌≢◌, ◌⊎◌, inl, inr, ℕ, ◌<◌, Bool, true, false, not, ◌||◌, ◌&&◌, List, [], ◌∷◌, ◌++◌, Option, None, Some, refl, sym, ap, ◌∙◌, subst, ⊎_elim}
+use Rattle.std.proofs.Common.{◌≡◌, ◌≢◌, ◌⊎◌, inl, inr, ℕ, ◌<◌, Bool, true, false, not, ◌||◌, List, [], ◌∷◌, ◌++◌, Option, None, Some, refl, sym, ap, ◌∙◌, subst, ⊎_elim}
 use Rattle.std.specs.Option.{option_to_list}
-use Rattle.std.specs.List.{find, list_any}
+use Rattle.std.specs.List.{list_any}
 use Rattle.std.specs.FinMap as fin
 use Rattle.std.proofs.lemmas.Bool.{both_ways, cases_Bool, cases_eq, false≢true, or_from, or_left, or_parts, or_right}
 use Rattle.std.proofs.lemmas.List.Folds.{list_any-append}
@@ -11,7 +11,7 @@ use Rattle.std.specs.Cmp.{tied_itself}
 use Rattle.std.specs.Ordering.{is_eq}
 use Rattle.bd_base.specs.declared.key.Key.{Key}
 use Rattle.bd_base.specs.declared.script.Call.{Call}
-use Rattle.bd_base.specs.declared.script.Call.TheVariants.{Enter, Truncate}
+use Rattle.bd_base.specs.declared.script.Call.TheVariants.{Enter}
 use Rattle.bd_base.specs.declared.script.How.TheVariants as hows
 use Rattle.bd_base.specs.declared.volume.Volume.{Volume}
 use Rattle.bd_base.specs.Keys.{key_cmp_total, same_key, same_key-is}
@@ -22,7 +22,7 @@ use Rattle.bd_entry.specs.Calls.{Place, is_end_of}
 use Rattle.bd_entry.specs.Refusals.{file_of}
 use Rattle.bd_entry.specs.Rules.{RightFile, Rights}
 use Rattle.bd_entry.specs.RulesOfRights.{LowersWhereTruncates}
-use Rattle.bd_entry.specs.Store.{Descriptor, descriptor_at, size_in}
+use Rattle.bd_entry.specs.Store.{Descriptor, size_in}
 use Rattle.bd_tables.specs.declared.state.Right.{Right}
 use Rattle.bd_tables.specs.declared.state.RightState.{RightState}
 use Rattle.bd_tables.specs.declared.state.RightState.TheVariants as states
@@ -30,14 +30,12 @@ use Rattle.bd_turns.specs.Processors.{is_on, is_on_state, is_posted, unposted}
 use Rattle.bd_turns.specs.Reached.{IsReached}
 use Rattle.bd_turns.specs.Sound.{AreRevokedByHolders, IsBeingRevoked, IsOneUnposted, is_clear_at, is_revoked}
 use Rattle.bd_turns.specs.State.{Posted, Progress, State, progress_of, running}
-use Rattle.bd_turns.specs.Turns.{holds_throughout}
-use Rattle.bd_turns.proofs.ActionsOfCalls.{AloneOn}
-use Rattle.bd_turns.proofs.CallsAfterTurns.{Ends, Follows, GoesOn, runs_of}
+use Rattle.bd_turns.proofs.CallsAfterTurns.{GoesOn}
 use Rattle.bd_turns.proofs.EffectiveTurns.{IsGoing, Turned}
 use Rattle.bd_turns.proofs.EndsOfRevocations as ending
 use Rattle.bd_turns.proofs.EntriesOfCalls.{added_made, added_place, cleared_by, clears-throughout}
 use Rattle.bd_turns.proofs.KeysOfCalls.{none_of_call}
-use Rattle.bd_turns.proofs.RightsAfterTurns.{Changes, IsFront, SetsAt, attaches, clears, detaches, leaves, moves, other_keys, posts}
+use Rattle.bd_turns.proofs.RightsAfterTurns.{Changes, attaches, clears, detaches, leaves, moves, other_keys, posts}
 
 -- ---- keys
 

@@ -1,45 +1,39 @@
 -- What an effective turn does to the rights of the tables and to the posted requests.
-use Rattle.std.proofs.Common.{◌≡◌, ◌≢◌, ◌⊎◌, inl, inr, ℕ, Bool, true, false, not, cond, List, [], ◌∷◌, ◌++◌, Option, None, Some, refl, sym, ap, ◌∙◌, subst, ⊎_elim}
-use Rattle.std.specs.Prelude.{nat_eq, position, slice_get, drop, IsSome}
-use Rattle.std.specs.Option.{option_and_then, option_map, option_map_or}
-use Rattle.std.specs.List.{find, list_any}
+use Rattle.std.proofs.Common.{◌≡◌, ◌≢◌, ℕ, Bool, true, false, not, List, [], ◌∷◌, ◌++◌, Option, None, Some, refl, sym, ap, ◌∙◌, subst, ⊎_elim}
+use Rattle.std.specs.Option.{option_map, option_map_or}
+use Rattle.std.specs.List.{list_any}
 use Rattle.std.specs.FinMap as fin
 use Rattle.std.proofs.lemmas.Bool.{both_ways, cases_Bool, false_from_ne_true, false≢true}
-use Rattle.std.proofs.lemmas.Option.{none-some, same_Some}
-use Rattle.bd_base.specs.declared.journal.At.{At}
+use Rattle.std.proofs.lemmas.Option.{same_Some}
 use Rattle.bd_base.specs.declared.key.Key.{Key}
-use Rattle.bd_base.specs.declared.script.Call.{Call}
 use Rattle.bd_base.specs.declared.volume.Volume.{Volume}
 use Rattle.bd_base.specs.Keys.{key_cmp_total, same_key, same_key-is}
 use Rattle.bd_entry.specs.declared.entry.Entry.{Entry}
 use Rattle.bd_entry.specs.declared.entry.Entry.TheVariants as entries
 use Rattle.bd_entry.specs.Actions.{keys_to_revoke}
-use Rattle.bd_entry.specs.Calls.{Place, at_of, call_at}
+use Rattle.bd_entry.specs.Calls.{Place}
 use Rattle.bd_entry.specs.Effects.{effect_of}
 use Rattle.bd_entry.specs.Promises.{is_whole_refusal}
 use Rattle.bd_entry.specs.Rules.{Rights as OfRights, place_in}
 use Rattle.bd_entry.specs.RulesOfRights.{Stands}
 use Rattle.bd_entry.specs.Store.{Descriptor, Store, descriptor_at, has_part, lowest_unattached}
-use Rattle.bd_entry.proofs.NextActs.{map_from, then_from}
+use Rattle.bd_entry.proofs.NextActs.{then_from}
 use Rattle.bd_entry.proofs.Slots.{some_of}
 use Rattle.bd_tables.specs.declared.state.Right.{Right}
 use Rattle.bd_tables.specs.declared.state.RightState.{RightState}
 use Rattle.bd_tables.specs.declared.state.RightState.TheVariants as states
 use Rattle.bd_tables.specs.Effects as effects
 use Rattle.bd_tables.specs.State.{Rights, TableState}
-use Rattle.bd_tables.proofs.Maps.{other_key, other_key-change, other_key-remove, same_key-change, same_key-insert, same_key-remove}
+use Rattle.bd_tables.proofs.Maps.{other_key, other_key-change, same_key-change, same_key-insert}
 use Rattle.bd_turns.specs.declared.turn.Row.{Row}
 use Rattle.bd_turns.specs.Added.{IsAdded}
-use Rattle.bd_turns.specs.Engines as engines
-use Rattle.bd_turns.specs.Engines.{Invalidation, detach, drain, invalidate, invalidation_of, sweep_or_detach}
 use Rattle.bd_turns.specs.Processors as processors
 use Rattle.bd_turns.specs.Processors.{action_for, next_action, row_of_entry, running_of, unposted}
 use Rattle.bd_turns.specs.Reached.{IsReached}
 use Rattle.bd_turns.specs.Sound.{AreRightsOf, IsRightOf, is_clear, is_clear_at, is_revoked}
-use Rattle.bd_turns.specs.State.{Posted, State, place_of, progress_of, running}
-use Rattle.bd_turns.specs.Turns.{attached_tables, grown_tables, may_write, posting_place, tables_after}
+use Rattle.bd_turns.specs.State.{Posted, State, running}
+use Rattle.bd_turns.specs.Turns.{attached_tables, grown_tables, may_write, tables_after}
 use Rattle.bd_turns.proofs.ActionsOfCalls.{Ahead, IsPassed, adds_for, ahead}
-use Rattle.bd_turns.proofs.CallsAfterTurns.{runs_at, runs_of}
 use Rattle.bd_turns.proofs.OwnActs.{clears_not, revokes_just}
 use Rattle.bd_turns.proofs.Revocations.{Clears, revokes-adds, revokes-row}
 use Rattle.bd_turns.proofs.RightsOnFiles.{find-passes}
@@ -167,7 +161,8 @@ module _ (v : Volume) (m next : State) (p : Place) (reached : IsReached v m) whe
           key : Key
           key = record { process = at.process; fd = fd; part = part }
 
-          by : (slot : Option Descriptor) → next.tables ≡ option_map_or (attached_tables s m.tables at.process fd part) slot m.tables → Changes m next p (Some e)
+          by : (slot : Option Descriptor) → next.tables ≡ option_map_or (attached_tables s m.tables at.process fd part) slot m.tables →
+              Changes m next p (Some e)
           by None same = leaves (λ key. ap (λ (x : TableState). fin.get x.rights key) same) posted
           by (Some d) same =
               let legal = added.next.keeps OfRights in

@@ -1,26 +1,25 @@
 -- The rights on a file and its size after an entry that spares them, and the keys of its rights.
-use Rattle.std.proofs.Common.{◌≡◌, ◌≢◌, ◌⊎◌, inl, inr, ℕ, zero, suc, ◌+◌, ◌<◌, ◌≤◌, Bool, true, false, not, ◌||◌, ◌&&◌, cond, List, [], ◌∷◌, ◌++◌, map, filter, length, Option, None, Some, refl, sym, ap, ◌∙◌, subst, arith, ⊎_elim}
-use Rattle.std.specs.Prelude.{is_some, nat_eq, nat_lt, slice_index_or, slice_set, All, IsSome}
-use Rattle.std.specs.Option.{option_and_then, option_map, option_map_or}
+use Rattle.std.proofs.Common.{◌≡◌, ◌≢◌, ◌⊎◌, inl, inr, ℕ, zero, suc, ◌+◌, ◌≤◌, Bool, true, false, ◌||◌, ◌&&◌, cond, List, [], ◌∷◌, ◌++◌, map, length, Option, None, Some, refl, sym, ap, ◌∙◌, subst, arith, ⊎_elim}
+use Rattle.std.specs.Prelude.{nat_eq, nat_lt, slice_index_or}
+use Rattle.std.specs.Option.{option_map_or}
 use Rattle.std.specs.List.{enumerate_from, find, flat_map, list_any}
-use Rattle.std.proofs.lemmas.Bool.{and_from, and_left, and_parts, and_right, both_ways, cases_Bool, cases_eq, cond-false, cond-true, eq-eqb, eqb-true, ltb-false, false_from_ne_true, false≢true, ne_eqb, or_cases, or_from, or_left, or_parts, or_right, true_from_ne_false}
+use Rattle.std.proofs.lemmas.Bool.{and_left, and_right, cases_Bool, eq-eqb, eqb-true, ltb-false, false≢true, ne_eqb, or_cases, or_left, or_parts, or_right}
 use Rattle.std.proofs.lemmas.List.Folds.{list_any-append}
 use Rattle.std.proofs.lemmas.Option.{none-some, same_Some}
 use Rattle.bd_base.specs.declared.key.Key.{Key}
 use Rattle.bd_base.specs.declared.script.Call.{Call}
 use Rattle.bd_base.specs.declared.volume.Inode.{Inode}
-use Rattle.bd_base.specs.Inodes.{inode_at}
 use Rattle.bd_base.proofs.FileLists.{inode_at-set_other}
 use Rattle.bd_entry.specs.declared.entry.Entry.{Entry}
 use Rattle.bd_entry.specs.declared.entry.Entry.TheVariants.{Access, Attached, Cleared, Created, Detached, Extended, Opened, Released, Sized, Unlinked}
-use Rattle.bd_entry.specs.Actions.{keys_by, keys_of_slot, keys_on, keys_where}
+use Rattle.bd_entry.specs.Actions.{keys_of_slot, keys_on, keys_where}
 use Rattle.bd_entry.specs.Calls.{at_of}
-use Rattle.bd_entry.specs.Effects.{after_change, new_descriptor, with_size}
+use Rattle.bd_entry.specs.Effects.{after_change, with_size}
 use Rattle.bd_entry.specs.Rules.{RightFile, place_in}
 use Rattle.bd_entry.specs.RulesOfRights.{HasNoRights}
-use Rattle.bd_entry.specs.Store.{Descriptor, Store, descriptor_at, file_in, has_part, has_rights, has_rights_on, is_attached_of, size_at, size_in, slots_of, without_part}
+use Rattle.bd_entry.specs.Store.{Descriptor, Store, descriptor_at, file_in, has_part, has_rights, is_attached_of, size_at, size_in, slots_of, without_part}
 use Rattle.bd_entry.proofs.EffectsOnFiles.{effect_of-files}
-use Rattle.bd_entry.proofs.SlotTests.{IgnoresSizes, LeavesFailing, Spares, none-after}
+use Rattle.bd_entry.proofs.SlotTests.{IgnoresSizes, Spares, none-after}
 use Rattle.bd_entry.proofs.SoundVolumes.{KeepsAll}
 use Rattle.bd_turns.proofs.FilesOfCalls.{not_made, store_after}
 
@@ -141,7 +140,9 @@ made-of P f n (x ∷ xs) check a found none each =
     (λ here. each 0 (subst (λ (m : ℕ). find check (f (m, x)) ≡ Some a) (omega arith) here))
     (λ later.
     made-of P f (n + 1) xs check a later none
-    (λ i is. each (suc i) (subst (λ (m : ℕ). find check (f (m, slice_index_or xs i none)) ≡ Some a) (let same : n + 1 + i ≡ n + suc i = omega arith in same) is)))
+    (λ i is.
+    let same : n + 1 + i ≡ n + suc i = omega arith in
+    each (suc i) (subst (λ (m : ℕ). find check (f (m, slice_index_or xs i none)) ≡ Some a) same is)))
     (find_append (f (n, x)) (flat_map f (enumerate_from (n + 1) xs)) found)
   where
     find_append : (front back : List _) → find check (front ++ back) ≡ Some a → (find check front ≡ Some a) ⊎ (find check back ≡ Some a)
@@ -187,9 +188,11 @@ key_found test s check key found =
     (λ process in_row.
     made-of (IsKeyWhere test s) (λ slot. keys_of_slot test (0 + process) slot.0 slot.1) 0 (slots_of s process) check key in_row None
     (λ fd in_slot.
+    let start : 0 + process ≡ process = omega arith in
+    let first : 0 + fd ≡ fd = omega arith in
     by process fd (descriptor_at s process fd) refl
-    (subst (λ (q : ℕ). find check (keys_of_slot test q fd (descriptor_at s process fd)) ≡ Some key) (let same : 0 + process ≡ process = omega arith in same)
-    (subst (λ (f : ℕ). find check (keys_of_slot test (0 + process) f (descriptor_at s process fd)) ≡ Some key) (let same : 0 + fd ≡ fd = omega arith in same) in_slot))))
+    (subst (λ (q : ℕ). find check (keys_of_slot test q fd (descriptor_at s process fd)) ≡ Some key) start
+    (subst (λ (f : ℕ). find check (keys_of_slot test (0 + process) f (descriptor_at s process fd)) ≡ Some key) first in_slot))))
   where
     by : (process fd : ℕ) (slot : Option Descriptor) → descriptor_at s process fd ≡ slot → find check (keys_of_slot test process fd slot) ≡ Some key →
         IsKeyWhere test s key
@@ -257,4 +260,5 @@ key_among test s check key fails there =
     let make : ℕ → Key = λ part. record { process = process; fd = fd; part = part } in
     let of_d : list_any check (cond (test there.d) (map make there.d.attached) []) ≡ false =
     subst (λ (slot : Option Descriptor). list_any check (keys_of_slot test process fd slot) ≡ false) there.is in_slot in
-    among_parts check key there.d.attached (subst (λ (b : Bool). list_any check (cond b (map make there.d.attached) []) ≡ false) there.passes of_d) there.attached
+    let of_parts = subst (λ (b : Bool). list_any check (cond b (map make there.d.attached) []) ≡ false) there.passes of_d in
+    among_parts check key there.d.attached of_parts there.attached

@@ -1,6 +1,6 @@
 -- After an effective turn each running truncation has no rights left once it has released a block, and lowers the size until
 -- then.
-use Rattle.std.proofs.Common.{◌≡◌, ◌≢◌, ◌⊎◌, inl, inr, ℕ, ◌<◌, Bool, true, false, ◌||◌, cond, List, [], ◌∷◌, ◌++◌, Option, None, Some, refl, sym, ap, ◌∙◌, subst, arith, ⊎_elim}
+use Rattle.std.proofs.Common.{◌≡◌, ◌≢◌, ◌⊎◌, inl, inr, ℕ, ◌<◌, Bool, true, false, List, [], ◌∷◌, ◌++◌, Option, None, Some, refl, sym, ap, ◌∙◌, subst, arith, ⊎_elim}
 use Rattle.std.specs.Prelude.{nat_lt}
 use Rattle.std.specs.Option.{option_and_then, option_map, option_to_list}
 use Rattle.std.specs.List.{list_any}
@@ -17,23 +17,22 @@ use Rattle.bd_base.specs.declared.volume.Volume.{Volume}
 use Rattle.bd_entry.specs.declared.entry.Entry.{Entry}
 use Rattle.bd_entry.specs.declared.entry.Entry.TheVariants as entries
 use Rattle.bd_entry.specs.Actions.{keys_on}
-use Rattle.bd_entry.specs.Calls.{Place, at_of, fd_of_call, is_end_of, is_made_by}
+use Rattle.bd_entry.specs.Calls.{Place, at_of, fd_of_call, is_end_of, is_made_by, pieces_of_call}
 use Rattle.bd_entry.specs.Refusals.{file_of, file_of_call, goal_of_call, kernel_piece, next_size}
 use Rattle.bd_entry.specs.Rules.{RightFile, Rights, WithinLimit, place_in}
-use Rattle.bd_entry.specs.RulesOfRights.{HasNoRights, LowersWhereTruncates, Stands, TheDescriptor}
+use Rattle.bd_entry.specs.RulesOfRights.{HasNoRights, LowersWhereTruncates}
 use Rattle.bd_entry.specs.Store.{Descriptor, Store, Valid, descriptor_at, file_in, size_in}
 use Rattle.bd_entry.proofs.Accesses.{of_call-in_store}
 use Rattle.bd_entry.proofs.NextCloses.{keys_on-none}
 use Rattle.bd_entry.proofs.NextFiles.{cond_from}
 use Rattle.bd_entry.proofs.Slots.{some_of}
-use Rattle.bd_turns.specs.Added.{IsAdded}
 use Rattle.bd_turns.specs.Reached.{IsReached}
 use Rattle.bd_turns.specs.Sound.{AreTruncating, IsTruncating, is_clear, is_open, is_release}
 use Rattle.bd_turns.specs.State.{Progress, State, has_ended, progress_of, running}
 use Rattle.bd_turns.specs.Turns.{holds_throughout}
-use Rattle.bd_turns.proofs.CallsAfterTurns.{Ends, Follows, GoesOn, runs_of}
+use Rattle.bd_turns.proofs.CallsAfterTurns.{GoesOn, runs_of}
 use Rattle.bd_turns.proofs.EffectiveTurns.{Turned, has_ended-by_end, store_with}
-use Rattle.bd_turns.proofs.EntriesOfCalls.{added_made, added_place}
+use Rattle.bd_turns.proofs.EntriesOfCalls.{added_made, added_place, needs_hold}
 use Rattle.bd_turns.proofs.FilesOfCalls.{store_after}
 use Rattle.bd_turns.proofs.HoldsAfterTurns as holds
 use Rattle.bd_turns.proofs.RightsOnFiles.{LeavesSize, LeavesUnattached, no_keys, no_rights_kept, size_kept}
@@ -140,7 +139,7 @@ module _ (v : Volume) (m next : State) (p : Place) (entry : Option Entry) (g : P
 
   -- the file of the call of the turn is not one that another process holds
   other_than : (q file : ℕ) → q ≢ process → (progress_of m q).held ≡ Some file → (e : Entry) → entry ≡ Some e →
-      Rattle.bd_turns.proofs.EntriesOfCalls.needs_hold e ≡ true → (other : ℕ) → file_of m.store p ≡ Some other → file ≢ other
+      needs_hold e ≡ true → (other : ℕ) → file_of m.store p ≡ Some other → file ≢ other
   other_than q file differ held e is needs other of same =
       differ (t.alone e is needs file q (of ∙ ap Some (sym same)) held)
 
@@ -219,7 +218,7 @@ module _ (v : Volume) (m next : State) (p : Place) (entry : Option Entry) (g : P
   ends_not goes fd size call e is ends =
       both_ways (has_ended p.call (p.before ++ added) g) goes.unended
       (ap (λ (o : Option Entry). has_ended p.call (p.before ++ option_to_list o) g) is
-      ∙ has_ended-by_end p.call p.before e g ends (t.commands e is (ap Rattle.bd_entry.specs.Calls.pieces_of_call call)))
+      ∙ has_ended-by_end p.call p.before e g ends (t.commands e is (ap pieces_of_call call)))
 
   growing-not : (size old to : ℕ) → next_size old size ≡ Some to → size < old → ⊥
   growing-not size old to is lower =
@@ -272,7 +271,8 @@ module _ (v : Volume) (m next : State) (p : Place) (entry : Option Entry) (g : P
           let keeps = (t.added x is_x).next.keeps in
           let is_file = the_file x other is_x (keeps RightFile) in
           let grows : next_size (size_in m.store other) size ≡ Some to =
-          subst (λ (c : Call). option_and_then (next_size (size_in m.store other)) (goal_of_call c (kernel_piece m.store (place_in m.store p.call at))) ≡ Some to)
+          subst
+          (λ (c : Call). option_and_then (next_size (size_in m.store other)) (goal_of_call c (kernel_piece m.store (place_in m.store p.call at))) ≡ Some to)
           call (keeps WithinLimit) in
           record {
             unattached = tt;
