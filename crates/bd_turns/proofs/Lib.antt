@@ -10,6 +10,7 @@ pub mod EntriesOfCalls
 pub mod FilesOfCalls
 pub mod Growing
 pub mod HoldsAfterTurns
+pub mod HoldsAtBoot
 pub mod HoldsKept
 pub mod Invalidations
 pub mod KeysOfCalls
