@@ -2,3 +2,4 @@
 pub mod Cases
 pub mod Growing
 pub mod Determined
+pub mod Acting
