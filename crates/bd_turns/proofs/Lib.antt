@@ -3,3 +3,4 @@ pub mod Cases
 pub mod Growing
 pub mod Determined
 pub mod Acting
+pub mod BusyEngines
