@@ -4,3 +4,4 @@ pub mod Growing
 pub mod Determined
 pub mod Acting
 pub mod BusyEngines
+pub mod PostedRights
