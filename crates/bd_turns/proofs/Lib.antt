@@ -5,3 +5,4 @@ pub mod Determined
 pub mod Acting
 pub mod BusyEngines
 pub mod PostedRights
+pub mod NextActsThere
