@@ -6,3 +6,5 @@ pub mod Acting
 pub mod BusyEngines
 pub mod PostedRights
 pub mod NextActsThere
+pub mod OwnActsThere
+pub mod NeverStuck

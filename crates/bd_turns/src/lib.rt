@@ -2,7 +2,9 @@
 #![tactic(auto)]
 
 mod laws;
+mod progress_laws;
 mod turn;
 
 pub use laws::{journal_grows, one_course, turns_without_effect};
+pub use progress_laws::never_stuck;
 pub use turn::{Event, EventList, Row, Turn, Wait};

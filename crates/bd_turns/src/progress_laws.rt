@@ -1,0 +1,7 @@
+//! The two laws of progress. Each is the contract of a function that does nothing.
+ghost use Rattle.bd_turns.specs.Progress.{NeverStuck};
+
+/// As long as a call has not ended, some actor's turn has an effect.
+pub fn never_stuck()
+    ensures { NeverStuck }
+{}
