@@ -8,3 +8,4 @@ pub mod PostedRights
 pub mod NextActsThere
 pub mod OwnActsThere
 pub mod NeverStuck
+pub mod PiecesThere
