@@ -9,3 +9,4 @@ pub mod NextActsThere
 pub mod OwnActsThere
 pub mod NeverStuck
 pub mod PiecesThere
+pub mod OpenDescriptors

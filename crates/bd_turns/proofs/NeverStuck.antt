@@ -5,7 +5,8 @@ use Rattle.bd_turns.proofs.Acting.{processor_acts}
 use Rattle.bd_turns.proofs.BusyEngines.{commands_act}
 use Rattle.bd_turns.proofs.PostedRights.{posted_acts}
 use Rattle.bd_turns.proofs.OwnActsThere.{truncation_there}
-use Rattle.bd_turns.proofs.PiecesThere.{any_of_call}
+use Rattle.bd_turns.proofs.PiecesThere.{read_there}
+use Rattle.bd_turns.proofs.OpenDescriptors.{attaches}
 
 pub never_stuck : NeverStuck
 never_stuck v m reached running = ?
