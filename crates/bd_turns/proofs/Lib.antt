@@ -10,3 +10,4 @@ pub mod OwnActsThere
 pub mod NeverStuck
 pub mod PiecesThere
 pub mod OpenDescriptors
+pub mod CallsGoOn

@@ -5,7 +5,7 @@ use Rattle.bd_turns.proofs.Acting.{processor_acts}
 use Rattle.bd_turns.proofs.BusyEngines.{commands_act}
 use Rattle.bd_turns.proofs.PostedRights.{posted_acts}
 use Rattle.bd_turns.proofs.OwnActsThere.{truncation_there}
-use Rattle.bd_turns.proofs.PiecesThere.{read_there}
+use Rattle.bd_turns.proofs.CallsGoOn.{next_there, with_commands}
 use Rattle.bd_turns.proofs.OpenDescriptors.{attaches}
 
 pub never_stuck : NeverStuck

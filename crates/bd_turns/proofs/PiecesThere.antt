@@ -46,7 +46,7 @@ any_of_call test p (e ∷ entries) of ends unfinished =
 -- ---- submissions and completions
 
 -- a piece is submitted or a completion taken, or neither is there
-submitted : (s : Store) (r : Running) →
+pub submitted : (s : Store) (r : Running) →
     IsDone s r (submit_or_poll s r)
     ⊎ ((submit_or_poll s r ≡ None) × (is_none_of r.outstanding ≡ true)
     × (find (λ number. is_for_device s r.place number && is_untouched r number) (piece_numbers r.place.call) ≡ None))
