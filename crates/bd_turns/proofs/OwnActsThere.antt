@@ -30,7 +30,7 @@ use Rattle.bd_entry.proofs.Slots.{some_of}
 use Rattle.bd_turns.proofs.BusyEngines.{There, there_map}
 use Rattle.bd_turns.proofs.NextActsThere.{HasOwn, IsDoable, adds, IsDone}
 
-not_false : (b : Bool) → not b ≡ false → b ≡ true
+pub not_false : (b : Bool) → not b ≡ false → b ≡ true
 not_false true is = refl
 not_false false is = absurd (false≢true (sym is))
 
