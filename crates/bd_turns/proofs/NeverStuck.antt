@@ -9,7 +9,7 @@ use Rattle.std.proofs.lemmas.Bool.{and_cases, or_cases, both_ways, cases_Bool, c
 use Rattle.std.proofs.lemmas.List.{append-nil}
 use Rattle.std.proofs.lemmas.List.Elements.{All-head}
 use Rattle.std.proofs.lemmas.List.Quantifiers.{position-Some}
-use Rattle.std.proofs.lemmas.Option.{none-some, slice_get-get_or, slice_get_within}
+use Rattle.std.proofs.lemmas.Option.{none-some, same_Some, slice_get_cases, slice_get_within}
 use Rattle.bd_base.specs.declared.journal.At.{At}
 use Rattle.bd_base.specs.declared.key.Key.{Key}
 use Rattle.bd_base.specs.declared.limits.TheConstants.{POSTS}
@@ -51,6 +51,7 @@ use Rattle.bd_turns.proofs.Cases.{running_process}
 use Rattle.bd_turns.proofs.NextActsThere.{IsDoable, IsDone, adds, polls, revokes, submits}
 use Rattle.bd_turns.proofs.OpenDescriptors.{attaches, descriptors_are_open}
 use Rattle.bd_turns.proofs.OwnActsThere.{not_false}
+use Rattle.bd_turns.proofs.PiecesThere.{not_all}
 use Rattle.bd_turns.proofs.PostedRights.{IsQuiet, posted_acts}
 
 -- ---- the action of a processor
@@ -256,16 +257,48 @@ not_busy m p alone = by (file_of m.store p) refl
 -- a process whose calls have not all ended has a running one
 running_call : (v : Volume) (m : State) → IsReached v m → (q : ℕ) → nat_eq (progress_of m q).ended (length (calls_of m.script q)) ≡ false →
     There (call_at m.script (running_at m q))
-running_call v m reached q goes = ?
+running_call v m reached q goes =
+    let ended : ℕ = (progress_of m q).ended in
+    let count : ℕ = length (calls_of m.script q) in
+    let most : ended ≤ count = reached.sound.calls.processes.ended q in
+    let differ : ended ≢ count = λ same. both_ways (nat_eq ended count) goes (eq-eqb ended count same) in
+    ⊎_elim
+    (λ there. (there.0, there.2))
+    (λ past. let least : count ≤ ended = past.0 in absurd (omega arith))
+    (slice_get_cases (calls_of m.script q) ended).1
 
 -- the running call of a process that holds a file goes on
 holder_acts : (v : Volume) (m : State) → IsReached v m → m.posted ≡ [] → IsQuiet m → (q file : ℕ) → (progress_of m q).held ≡ Some file → SomeActorActs m
-holder_acts v m reached none quiet q file held = ?
+holder_acts v m reached none quiet q file held =
+    let holds = reached.sound.holds_are.holds q file held in
+    let call = map_from (place_of m (running_at m q)) (call_at m.script (running_at m q)) holds.0 holds.1 in
+    let p : Place = place_of m (running_at m q) call.0 in
+    let of : file_of m.store p ≡ Some file = ap (file_of m.store) call.2 ∙ holds.2 in
+    call_acts v m reached q call.0 call.1 none quiet
+    (not_busy m p
+    (λ other h is held_by.
+    let same : file ≡ other = same_Some file other (sym of ∙ is) in
+    let mine : does_hold other (progress_of m q) ≡ true =
+    ap (λ (o : Option ℕ). option_map_or (nat_eq other) o false) held ∙ eq-eqb other file (sym same) in
+    reached.sound.holds_are.held_once other h q (holder_holds m other h held_by) mine))
 
 -- where nobody holds a file, any running call goes on
 free_acts : (v : Volume) (m : State) → IsReached v m → m.posted ≡ [] → IsQuiet m → ((q : ℕ) → is_some (progress_of m q).held ≡ false) →
     all_ended m ≡ false → SomeActorActs m
-free_acts v m reached none quiet free going = ?
+free_acts v m reached none quiet free going =
+    let unended = not_all (λ q. nat_eq (progress_of m q).ended (length (calls_of m.script q))) 0 (process_count m) going in
+    let q : ℕ = unended.0 in
+    let call = running_call v m reached q unended.3 in
+    let p : Place = place_of m (running_at m q) call.0 in
+    call_acts v m reached q call.0 call.1 none quiet
+    (not_busy m p
+    (λ file h is held_by.
+    absurd
+    (both_ways (does_hold file (progress_of m h)) (holds_none file (progress_of m h).held (free h)) (holder_holds m file h held_by))))
+  where
+    holds_none : (file : ℕ) (o : Option ℕ) → is_some o ≡ false → option_map_or (nat_eq file) o false ≡ false
+    holds_none file None none = refl
+    holds_none file (Some held) none = absurd (false≢true (sym none))
 
 quiet_acts : (v : Volume) (m : State) → IsReached v m → IsQuiet m → all_ended m ≡ false → SomeActorActs m
 quiet_acts v m reached quiet going = by m.posted refl

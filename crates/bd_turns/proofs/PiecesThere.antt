@@ -134,7 +134,7 @@ module _ (s : Store) (holders : Holders) (at : At) (before : List Entry) (outsta
 -- ---- pieces for the kernel
 
 -- where not all pass, one does not
-not_all : (test : ℕ → Bool) (a n : ℕ) → list_all test (range_with_len a n) ≡ false → (k : ℕ) × (a ≤ k) × (k < a + n) × (test k ≡ false)
+pub not_all : (test : ℕ → Bool) (a n : ℕ) → list_all test (range_with_len a n) ≡ false → (k : ℕ) × (a ≤ k) × (k < a + n) × (test k ≡ false)
 not_all test a zero fails = absurd (false≢true (sym fails))
 not_all test a (suc n) fails =
     ⊎_elim
