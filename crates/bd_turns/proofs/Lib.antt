@@ -1,6 +1,7 @@
 -- Lemmas on turns and runs.
+pub mod ActionsOfCalls
 pub mod Cases
-pub mod Growing
+pub mod CallsAfterTurns
 pub mod Determined
 pub mod Acting
 pub mod BusyEngines
@@ -11,3 +12,11 @@ pub mod NeverStuck
 pub mod PiecesThere
 pub mod OpenDescriptors
 pub mod CallsGoOn
+pub mod EffectiveTurns
+pub mod EngineSteps
+pub mod EntriesOfCalls
+pub mod FilesOfCalls
+pub mod Growing
+pub mod RefusalsStayAway
+pub mod Revocations
+pub mod RightsOnFiles

@@ -9,17 +9,17 @@ use Rattle.bd_base.specs.declared.key.Cell.{Cell}
 use Rattle.bd_base.specs.declared.key.Key.{Key}
 use Rattle.bd_base.specs.declared.limits.TheConstants.{PART_BLOCKS}
 use Rattle.bd_base.specs.declared.script.Call.{Call}
-use Rattle.bd_base.specs.declared.script.Call.TheVariants.{Read, Truncate}
+use Rattle.bd_base.specs.declared.script.Call.TheVariants.{Enter, Read, Truncate}
 use Rattle.bd_base.specs.declared.script.Script.{Script}
 use Rattle.bd_base.specs.Keys.{Pair, same_key}
 use Rattle.bd_base.specs.Scripts.{IsWithinLimits}
 use Rattle.bd_entry.specs.declared.entry.Entry.{Entry}
 use Rattle.bd_entry.specs.declared.entry.Entry.TheVariants as entries
 use Rattle.bd_entry.specs.Actions.{has_begun, is_for_device, keys_on}
-use Rattle.bd_entry.specs.Calls.{Place, calls_of, entries_of, has_missed, is_answered, is_ended_by, is_finished, pieces_of_call}
+use Rattle.bd_entry.specs.Calls.{Place, calls_of, entries_of, has_missed, is_answered, is_ended_by, is_finished, opened_fd, pieces_of_call}
 use Rattle.bd_entry.specs.NextEntries.{stays_allowed}
 use Rattle.bd_entry.specs.Refusals.{file_of, first_refusal}
-use Rattle.bd_entry.specs.RulesOfRights.{HasRights}
+use Rattle.bd_entry.specs.RulesOfRights.{HasRights, TheDescriptor}
 use Rattle.bd_entry.specs.Store.{Descriptor, Store, Valid, blocks_in, descriptor_at, has_part, limit_in, size_in}
 use Rattle.bd_tables.specs.declared.request.Request.{Request}
 use Rattle.bd_tables.specs.declared.state.Right.{Right}
@@ -138,7 +138,8 @@ IsPostedState number states.On = ⊥
 IsPostedState number states.Cleared = Unit {0}
 IsPostedState number (states.Drained swept) = number ≡ 0
 
--- the posted keys differ; each is one that its running call cleared; only the front one may be drained
+-- the posted keys differ; each is one that its running call cleared, on the file that its process holds; only the front
+-- one may be drained
 pub record ArePosted (m : State) : Type 0 where
   pub differ : (i j : ℕ) (first second : Posted) → slice_get m.posted i ≡ Some first →
       slice_get m.posted j ≡ Some second → first.key ≡ second.key → i ≡ j
@@ -150,6 +151,8 @@ pub record ArePosted (m : State) : Type 0 where
   pub drained : (key : Key) (right : Right) (swept : List Bool) → fin.get m.tables.rights key ≡ Some right →
       right.state ≡ states.Drained swept →
       (post : Posted) × (slice_get m.posted 0 ≡ Some post) × (post.key ≡ key)
+  pub held : (number : ℕ) (post : Posted) (right : Right) → slice_get m.posted number ≡ Some post →
+      fin.get m.tables.rights post.key ≡ Some right → (progress_of m post.by.process).held ≡ Some right.file
 
 -- a right that is revoked is one that the running call of the process that holds its file cleared
 pub record IsBeingRevoked (m : State) (key : Key) (right : Right) : Type 0 where
@@ -191,6 +194,17 @@ abbrev pub AreBegunHolding : State → Type 0
 AreBegunHolding m =
     (process : ℕ) (p : Place) → running m process ≡ Some p → holds_throughout p.call ≡ true → p.before ≢ [] →
     (file : ℕ) × (file_of m.store p ≡ Some file) × ((progress_of m process).held ≡ Some file)
+
+-- whether the call is an open
+abbrev pub is_open : Call → Bool
+is_open (Enter name mode how) = true
+is_open call = false
+
+-- the descriptor that an open has opened is of the file of the open
+abbrev pub AreOpensOfFiles : State → Type 0
+AreOpensOfFiles m =
+    (process fd : ℕ) (p : Place) → running m process ≡ Some p → is_open p.call ≡ true → opened_fd p.before ≡ Some fd →
+    TheDescriptor (descriptor_at m.store process fd) (λ d. file_of m.store p ≡ Some d.file)
 
 -- ---- commands
 
@@ -326,6 +340,7 @@ pub record AreHoldsSound (m : State) : Type 0 where
   pub held_once : IsHeldOnce m
   pub holds : AreHoldsOfCalls m
   pub begun_holding : AreBegunHolding m
+  pub opened : AreOpensOfFiles m
   pub allowed : AreAllowed m
   pub truncating : AreTruncating m
 
