@@ -2,3 +2,8 @@
 pub mod Cases
 pub mod Growing
 pub mod Determined
+pub mod FoundElements
+pub mod RunningPlaces
+pub mod NextRevocations
+pub mod AddedByActs
+pub mod LegalActs
