@@ -7,3 +7,5 @@ pub mod RunningPlaces
 pub mod NextRevocations
 pub mod AddedByActs
 pub mod LegalActs
+pub mod KeysToRevoke
+pub mod LegalClears
