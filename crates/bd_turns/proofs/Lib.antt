@@ -9,3 +9,6 @@ pub mod AddedByActs
 pub mod LegalActs
 pub mod KeysToRevoke
 pub mod LegalClears
+pub mod UnfinishedCalls
+pub mod CommandsInHand
+pub mod StepEntries
