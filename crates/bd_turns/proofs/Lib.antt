@@ -12,3 +12,5 @@ pub mod LegalClears
 pub mod UnfinishedCalls
 pub mod CommandsInHand
 pub mod StepEntries
+pub mod LegalMisses
+pub mod Translations
