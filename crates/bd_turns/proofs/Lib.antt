@@ -14,3 +14,4 @@ pub mod CommandsInHand
 pub mod StepEntries
 pub mod LegalMisses
 pub mod Translations
+pub mod LegalMoves
