@@ -15,3 +15,6 @@ pub mod StepEntries
 pub mod LegalMisses
 pub mod Translations
 pub mod LegalMoves
+pub mod ClearingCalls
+pub mod LegalDetaches
+pub mod LegalTurns
