@@ -18,3 +18,4 @@ pub mod LegalMoves
 pub mod ClearingCalls
 pub mod LegalDetaches
 pub mod LegalTurns
+pub mod GrowingHistories
