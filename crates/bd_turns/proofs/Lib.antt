@@ -19,3 +19,4 @@ pub mod ClearingCalls
 pub mod LegalDetaches
 pub mod LegalTurns
 pub mod GrowingHistories
+pub mod DoneTurns
