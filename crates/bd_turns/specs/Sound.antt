@@ -18,6 +18,7 @@ use Rattle.bd_entry.specs.declared.entry.Entry.TheVariants as entries
 use Rattle.bd_entry.specs.Actions.{has_begun, is_for_device, keys_on}
 use Rattle.bd_entry.specs.Calls.{Place, calls_of, entries_of, has_missed, is_answered, is_ended_by, is_finished, opened_fd, pieces_of_call}
 use Rattle.bd_entry.specs.NextEntries.{stays_allowed}
+use Rattle.bd_entry.specs.Promises.{is_whole_refusal}
 use Rattle.bd_entry.specs.Refusals.{file_of, first_refusal}
 use Rattle.bd_entry.specs.RulesOfRights.{HasRights, TheDescriptor}
 use Rattle.bd_entry.specs.Store.{Descriptor, Store, Valid, blocks_in, descriptor_at, has_part, limit_in, size_in}
@@ -257,6 +258,19 @@ AreUnended m =
     (process : ℕ) (p : Place) → running m process ≡ Some p →
     has_ended p.call p.before (progress_of m process) ≡ false
 
+-- no running call was refused as a whole: that ends it, as nothing is outstanding then
+abbrev pub AreUnrefused : State → Type 0
+AreUnrefused m =
+    (process : ℕ) (p : Place) → running m process ≡ Some p → list_any is_whole_refusal p.before ≡ false
+
+-- a running call that cleared a right holds the file of that descriptor, which stays open meanwhile
+abbrev pub AreClearsHeld : State → Type 0
+AreClearsHeld m =
+    (process : ℕ) (p : Place) (key : Key) → running m process ≡ Some p →
+    list_any (is_clear_at key) p.before ≡ true →
+    (d : Descriptor) × (descriptor_at m.store key.process key.fd ≡ Some d)
+    × ((progress_of m process).held ≡ Some d.file)
+
 -- ---- calls that have begun
 
 -- whether the refusals of the call stay away once it has begun
@@ -312,6 +326,8 @@ pub record AreCallsSound (m : State) : Type 0 where
   pub commands : AreCommandsOfCalls m
   pub for_device : AreForDevice m
   pub unended : AreUnended m
+  pub unrefused : AreUnrefused m
+  pub clears_held : AreClearsHeld m
 
 -- the tables and the engines. An Attach, a Clear and a DetachDone change the store and the tables alike; an Attach hands
 -- in the cells of the file's blocks, a growth fills or raises them in the same turn, and no block of a file goes while a

@@ -4,7 +4,9 @@
 mod laws;
 mod progress_laws;
 mod turn;
+mod turn_laws;
 
 pub use laws::{journal_grows, one_course, turns_without_effect};
 pub use progress_laws::never_stuck;
+pub use turn_laws::{turns_add_legally, turns_keep_history};
 pub use turn::{Event, EventList, Row, Turn, Wait};

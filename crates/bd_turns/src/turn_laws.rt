@@ -1,0 +1,12 @@
+//! What holds of the machine at every moment. Each law is the contract of a function that does nothing.
+ghost use Rattle.bd_turns.specs.Reached.{TurnsAddLegally, TurnsKeepHistory};
+
+/// Each entry that a turn adds is the next one of the journal, and legal there.
+pub fn turns_add_legally()
+    ensures { TurnsAddLegally }
+{}
+
+/// After each turn the journal is a history of the script, which leads to the store.
+pub fn turns_keep_history()
+    ensures { TurnsKeepHistory }
+{}
