@@ -38,3 +38,5 @@ pub mod LegalDetaches
 pub mod LegalTurns
 pub mod GrowingHistories
 pub mod DoneTurns
+pub mod FallingRest
+pub mod StepTurns

@@ -9,3 +9,4 @@ pub mod Added
 pub mod Reached
 pub mod Laws
 pub mod Progress
+pub mod Rest
