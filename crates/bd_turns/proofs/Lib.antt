@@ -40,3 +40,6 @@ pub mod GrowingHistories
 pub mod DoneTurns
 pub mod FallingRest
 pub mod StepTurns
+pub mod Sums
+pub mod SpentTurns
+pub mod EffectiveOutcomes
