@@ -43,3 +43,5 @@ pub mod StepTurns
 pub mod Sums
 pub mod SpentTurns
 pub mod EffectiveOutcomes
+pub mod RevocationTurns
+pub mod KeepsWithin

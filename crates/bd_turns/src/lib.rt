@@ -7,6 +7,6 @@ mod turn;
 mod turn_laws;
 
 pub use laws::{journal_grows, one_course, turns_without_effect};
-pub use progress_laws::{never_stuck, rest_falls};
+pub use progress_laws::{never_stuck, rest_falls, turns_keep_within};
 pub use turn_laws::{turns_add_legally, turns_keep_history};
 pub use turn::{Event, EventList, Row, Turn, Wait};
