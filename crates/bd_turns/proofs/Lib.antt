@@ -45,3 +45,4 @@ pub mod SpentTurns
 pub mod EffectiveOutcomes
 pub mod RevocationTurns
 pub mod KeepsWithin
+pub mod GrowthTurns

@@ -1,6 +1,6 @@
 -- How many effective turns are left to a running call at most, and that none takes more than the rest of a run allows it.
 use Rattle.std.specs.Prelude.{◌≡◌, ℕ, ◌+◌, ◌-◌, ◌*◌, ◌/◌, ◌<◌, ◌≤◌, nat_eq, nat_lt, cond, Bool, true, false, not, ◌&&◌, List, [], ◌∷◌, map, length, count_by, sum, is_some, Option, None, Some}
-use Rattle.std.specs.Option.{option_and_then, option_map_or}
+use Rattle.std.specs.Option.{option_map_or}
 use Rattle.std.specs.List.{range_with_len}
 use Rattle.std.specs.FinMap as fin
 use Rattle.bd_base.specs.declared.key.Key.{Key}
@@ -12,7 +12,6 @@ use Rattle.bd_base.specs.declared.volume.Volume.{Volume}
 use Rattle.bd_base.specs.Files.{blocks_for}
 use Rattle.bd_entry.specs.Actions.{has_begun, is_untouched, piece_numbers}
 use Rattle.bd_entry.specs.Calls.{Place, fd_of, is_answered}
-use Rattle.bd_entry.specs.Refusals.{goal_of}
 use Rattle.bd_entry.specs.Store.{Descriptor, Store, blocks_in, descriptor_at, size_in}
 use Rattle.bd_tables.specs.declared.state.Right.{Right}
 use Rattle.bd_tables.specs.declared.state.RightState.{RightState}
@@ -108,10 +107,15 @@ command_turns progress =
     8 * length progress.submitted + option_map_or (λ (hand : InHand). phase_turns hand.phase) progress.hand 0
     + length progress.completed
 
--- how many turns the kernel takes for a piece at most: the file grows by a step for each block of the largest file, and
--- by one in its last block, and then comes the access
+-- how many turns the kernel takes for a piece at most: the file grows by a step for each block of the largest file and of
+-- the piece's call, and by one in its last block, and then comes the access
 abbrev pub most_for_piece : ℕ
-most_for_piece = 4098
+most_for_piece = 4103
+
+-- where the bytes end that the call writes
+abbrev pub end_of_call : Call → ℕ
+end_of_call (Write fd off bytes) = off + length bytes
+end_of_call call = 0
 
 -- how many pieces of the call are not answered
 abbrev pub unanswered : Place → ℕ
@@ -121,12 +125,12 @@ unanswered p = count_by (λ number. not (is_answered number p.before)) (piece_nu
 abbrev pub untouched : State → Place → ℕ
 untouched m p = count_by (is_untouched (running_of m p)) (piece_numbers p.call)
 
--- how many turns the kernel takes for the pieces of a call at most: less for the one for which it has grown the file
--- that it holds
+-- how many turns the kernel takes for the pieces of a call at most: for the one for which it has grown the file that it
+-- holds, only the growth that is left up to the end of the call, and the access
 abbrev pub kernel_turns : Store → Place → Option ℕ → ℕ
 kernel_turns s p None = most_for_piece * unanswered p
 kernel_turns s p (Some file) =
-    most_for_piece * (unanswered p - 1) + option_map_or (growth_turns (size_in s file)) (goal_of s p) 0 + 1
+    most_for_piece * (unanswered p - 1) + growth_turns (size_in s file) (end_of_call p.call) + 1
 
 -- how many turns the pieces of a call take at most
 abbrev pub piece_turns : State → Place → Option ℕ → ℕ
