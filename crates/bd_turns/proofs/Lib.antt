@@ -20,3 +20,5 @@ pub mod LegalDetaches
 pub mod LegalTurns
 pub mod GrowingHistories
 pub mod DoneTurns
+pub mod StayingDescriptors
+pub mod KeptCalls
