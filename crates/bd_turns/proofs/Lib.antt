@@ -22,3 +22,4 @@ pub mod GrowingHistories
 pub mod DoneTurns
 pub mod StayingDescriptors
 pub mod KeptCalls
+pub mod KeptCommands
