@@ -39,7 +39,7 @@ use Rattle.bd_turns.specs.Added.{IsAdded}
 use Rattle.bd_turns.specs.Reached.{IsReached}
 use Rattle.bd_turns.specs.Sound.{AreClearsHeld, AreCommands, AreCommandsOfCalls, AreForDevice, is_clear_at, is_told}
 use Rattle.bd_turns.specs.State.{Completed, InHand, Progress, State, has_ended, outstanding, pieces_in_hand, progress_of, running}
-use Rattle.bd_turns.specs.Turns.{after_effect, with_call_ended, with_entry, with_entry_if_any, with_turn_used}
+use Rattle.bd_turns.specs.Turns.{after_effect, holds_throughout, with_call_ended, with_entry, with_entry_if_any, with_turn_used}
 
 -- ---- commands
 
@@ -288,7 +288,7 @@ module _ (v : Volume) (m done : State) (p : Place) (o : Option Entry) (progress 
       (sym (list_any-append (is_clear_at key) p.before (e ∷ [])) ∙ some))
 
   pub clears_kept : IsHistory v next.script next.journal next.store → AreCommands after progress →
-      ((key : Key) → list_any (is_clear_at key) after.before ≡ true → progress.held ≡ file_of m.store p) →
+      (holds_throughout p.call ≡ true → (key : Key) → list_any (is_clear_at key) after.before ≡ true → progress.held ≡ file_of m.store p) →
       ((other : ℕ) (q : Place) (key : Key) → other ≢ process → running m other ≡ Some q → list_any (is_clear_at key) q.before ≡ true →
       (e : Entry) → o ≡ Some e → LeavesOpen e key.process key.fd) →
       AreClearsHeld next
@@ -309,7 +309,7 @@ module _ (v : Volume) (m done : State) (p : Place) (o : Option Entry) (progress 
           let stays = file_after key found.0.file
           (λ e adds at by closed process_is fd_is. closes_none e adds goes (ap is_close closed))
           (found.0, found.1, refl) in
-          (stays.0, stays.1, held key cleared ∙ found.2 ∙ ap Some (sym stays.2))
+          (stays.0, stays.1, held clears.holds key cleared ∙ found.2 ∙ ap Some (sym stays.2))
 
       by : RunsAfter v m done p o progress sound is other q →
           (d : Descriptor) × (descriptor_at next.store key.process key.fd ≡ Some d) × ((progress_of next other).held ≡ Some d.file)

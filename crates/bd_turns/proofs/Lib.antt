@@ -23,3 +23,4 @@ pub mod DoneTurns
 pub mod StayingDescriptors
 pub mod KeptCalls
 pub mod KeptCommands
+pub mod ClosingCalls
