@@ -24,3 +24,5 @@ pub mod StayingDescriptors
 pub mod KeptCalls
 pub mod KeptCommands
 pub mod ClosingCalls
+pub mod CommandSteps
+pub mod EngineCommands
