@@ -26,3 +26,5 @@ pub mod KeptCommands
 pub mod ClosingCalls
 pub mod CommandSteps
 pub mod EngineCommands
+pub mod EngineSteps
+pub mod TurnsDone
