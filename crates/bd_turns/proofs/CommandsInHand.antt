@@ -67,7 +67,7 @@ pub record GoesDirectBy (s : Store) (p : Place) (number : ℕ) : Type 0 where
   pub direct : goes_direct d piece ≡ true
 
 -- a piece for the device is that of a raw command, or goes direct
-goes_there : (s : Store) (p : Place) (number : ℕ) → is_for_device s p number ≡ true → is_raw p.call ≡ false → GoesDirectBy s p number
+pub goes_there : (s : Store) (p : Place) (number : ℕ) → is_for_device s p number ≡ true → is_raw p.call ≡ false → GoesDirectBy s p number
 goes_there s p number for_device raw =
     by (descriptor_of s p) refl
     (sym (ap (λ (b : Bool). b || option_map_or (λ d. option_map_or (goes_direct d) (piece_of_call p.call number) false) (descriptor_of s p) false) raw)

@@ -93,16 +93,16 @@ move-keeps m p number fd piece completion untold is rule = tt
 -- ---- moves
 
 -- the parts of a move's entry
-record MovesBy (s : Store) (p : Place) (number block : ℕ) (e : Entry) : Type 0 where
-  fd : ℕ
-  fd_is : fd_of p ≡ Some fd
-  piece : Piece
-  piece_is : piece_of_call p.call number ≡ Some piece
-  d : Descriptor
-  is_open : descriptor_at s p.at.process fd ≡ Some d
-  entry : move_entry s p number fd piece block d ≡ e
+pub record MovesBy (s : Store) (p : Place) (number block : ℕ) (e : Entry) : Type 0 where
+  pub fd : ℕ
+  pub fd_is : fd_of p ≡ Some fd
+  pub piece : Piece
+  pub piece_is : piece_of_call p.call number ≡ Some piece
+  pub d : Descriptor
+  pub is_open : descriptor_at s p.at.process fd ≡ Some d
+  pub entry : move_entry s p number fd piece block d ≡ e
 
-moves_by : (s : Store) (p : Place) (number block : ℕ) (e : Entry) → move_entry_of s p number block ≡ Some e → MovesBy s p number block e
+pub moves_by : (s : Store) (p : Place) (number block : ℕ) (e : Entry) → move_entry_of s p number block ≡ Some e → MovesBy s p number block e
 moves_by s p number block e is =
     let of_piece : ℕ → Piece → Option Entry =
     λ fd piece. option_map (move_entry s p number fd piece block) (descriptor_at s p.at.process fd) in

@@ -46,3 +46,10 @@ pub mod EffectiveOutcomes
 pub mod RevocationTurns
 pub mod KeepsWithin
 pub mod GrowthTurns
+pub mod StayingDescriptors
+pub mod KeptCalls
+pub mod KeptCommands
+pub mod ClosingCalls
+pub mod CommandSteps
+pub mod EngineCommands
+pub mod TurnsDone
