@@ -24,6 +24,7 @@ use Rattle.bd_entry.specs.Calls.{Place, at_of, fd_of_call, is_made_by, piece_of_
 use Rattle.bd_entry.specs.Laws.{AreOfCall, IsHistory}
 use Rattle.bd_entry.specs.Promises.{is_whole_refusal}
 use Rattle.bd_entry.specs.Refusals.{denial, descriptor_of, file_of, file_of_call, first_refusal, is_next_for_kernel, map_refusal, reason_if, truncate_refusal, unlink_denial_of}
+use Rattle.bd_entry.specs.Rules.{place_in}
 use Rattle.bd_entry.specs.RulesOfCalls.{IsOfCall, MayClear}
 use Rattle.bd_entry.specs.Store.{Descriptor, Holder, Store, descriptor_at, first_open, lowest_fd}
 use Rattle.bd_entry.proofs.Accesses.{of_call-in_store}
@@ -135,6 +136,11 @@ write_clears_not call fd off bytes at owner number part is made =
 -- the entry that a turn of a processor adds is of its call
 pub added_made : (v : Volume) (m : State) (p : Place) (e : Entry) → IsAdded v m p e → is_made_by p.call e ≡ true
 added_made v m p e added = (of_call-in_store v m.script m.journal m.store p.call e added.next).kind
+
+-- the place of the turn is that of the entry in the store
+pub added_place : (v : Volume) (m : State) (p : Place) (e : Entry) → IsAdded v m p e → place_in m.store p.call (at_of e) ≡ p
+added_place v m p e added =
+    ap (λ (at : At). place_in m.store p.call at) added.at_is ∙ ap (λ (es : List Entry). record p { before = es }) added.work_is
 
 -- no other process holds the file of a call that adds such an entry
 pub alone_adding : (v : Volume) (m : State) (p : Place) (row : Row) (e : Entry) → AreCallsSound m → AreHoldsSound m → running m p.at.process ≡ Some p →

@@ -1,14 +1,17 @@
 -- The file of a call stays as entries of any call are added: its descriptor stays open, or its name is still that file's.
-use Rattle.std.proofs.Common.{◌≡◌, ◌≢◌, ◌⊎◌, inl, inr, ℕ, Bool, true, false, List, [], ◌∷◌, ◌++◌, length, Option, None, Some, refl, sym, ap, ◌∙◌, subst, ⊎_elim}
-use Rattle.std.specs.Prelude.{is_some, position, slice_get, slice_set, IsSome}
+use Rattle.std.proofs.Common.{◌≡◌, ◌≢◌, ◌⊎◌, inl, inr, ℕ, zero, suc, ◌<◌, Bool, true, false, List, [], ◌∷◌, ◌++◌, length, arith, Option, None, Some, refl, sym, ap, ◌∙◌, subst, ⊎_elim}
+use Rattle.std.specs.Prelude.{is_some, slice_index_or, slice_set}
 use Rattle.std.specs.Option.{option_and_then, option_map, option_map_or}
 use Rattle.std.specs.Str.{bytes_eq}
 use Rattle.std.proofs.lemmas.Bool.{both_ways, cases_eq, false≢true}
+use Rattle.std.proofs.lemmas.List.{get_or-set_same}
 use Rattle.std.proofs.lemmas.List.Quantifiers.{position-Some}
 use Rattle.std.proofs.lemmas.Option.{none-some, same_Some}
 use Rattle.std.specs.Cmp.Lexicographic.{bytes_decides}
 use Rattle.bd_base.specs.declared.script.Call.{Call}
 use Rattle.bd_base.specs.declared.script.Call.TheVariants.{Enter, Create, Read, Write, Truncate, Unlink, Size, Map, Close, RawRead, RawWrite}
+use Rattle.bd_base.specs.declared.journal.At.{At}
+use Rattle.bd_base.specs.declared.script.How.{How}
 use Rattle.bd_base.specs.declared.script.Mode.{Mode}
 use Rattle.bd_base.specs.declared.script.Script.{Script}
 use Rattle.bd_base.specs.declared.volume.Inode.{Inode}
@@ -17,14 +20,14 @@ use Rattle.bd_base.specs.Inodes.{AreValidFiles, free_id, has_name, id_of, inode_
 use Rattle.bd_base.proofs.FileLists.{has_name-Named, inode_at-set_other, inode_at-set_same, inode_at-within, position-fails}
 use Rattle.bd_base.proofs.ValidFiles.{free_id-free}
 use Rattle.bd_entry.specs.declared.entry.Entry.{Entry}
-use Rattle.bd_entry.specs.declared.entry.Entry.TheVariants.{Access, Created, Extended, Released, Sized, Unlinked}
+use Rattle.bd_entry.specs.declared.entry.Entry.TheVariants.{Access, Created, Extended, Opened, Released, Sized, Unlinked}
 use Rattle.bd_entry.specs.Calls.{Place, at_of, fd_of_address, fd_of_call, is_ended_by}
-use Rattle.bd_entry.specs.Effects.{after_change, after_telling, effect_of, tells_size, with_known_size, with_size, with_told_size}
+use Rattle.bd_entry.specs.Effects.{after_change, after_telling, effect_of, new_descriptor, tells_size, with_known_size, with_size, with_told_size}
 use Rattle.bd_entry.specs.Laws.{IsNextOf}
 use Rattle.bd_entry.specs.Refusals.{descriptor_of, file_of, file_of_call}
 use Rattle.bd_entry.specs.Rules.{IsOpen, RightFile, place_in}
 use Rattle.bd_entry.specs.RulesOfRights.{HasRightDescriptor, TheDescriptor}
-use Rattle.bd_entry.specs.Store.{Descriptor, Store, Valid, descriptor_at, file_in, size_in, work_of}
+use Rattle.bd_entry.specs.Store.{Descriptor, Store, Valid, descriptor_at, file_in, in_slot, is_empty_slot, lowest_fd, slots_of, work_of}
 use Rattle.bd_entry.proofs.DescriptorSteps.{after_call-cases, after_change-becomes, after_telling-cases, is_close}
 use Rattle.bd_entry.proofs.EffectsOnFiles.{effect_of-files}
 use Rattle.bd_entry.proofs.Histories.{history-push}
@@ -43,27 +46,15 @@ store_after s call e = effect_of s (place_in s call (at_of e)) e
 abbrev pub RestsOnFile : (Descriptor → Type 0) → Type 0
 RestsOnFile P = (d new : Descriptor) → new.file ≡ d.file → new.mode ≡ d.mode → P d → P new
 
--- it holds after an entry that does not close the descriptor
-pub descriptor_kept : (P : Descriptor → Type 0) → RestsOnFile P → (s : Store) (call : Call) (e : Entry) → HasRightDescriptor s (place_in s call (at_of e)) e →
-    (process fd : ℕ) → (is_close e ≡ true → process ≢ (at_of e).process) →
-    TheDescriptor (descriptor_at s process fd) P → TheDescriptor (descriptor_at (store_after s call e) process fd) P
-descriptor_kept P rests s call e fits process fd stays_open has =
+-- what the entry's own change left so, its call leaves so too
+pub changed_kept : (P : Descriptor → Type 0) → RestsOnFile P → (s : Store) (call : Call) (e : Entry) (process fd : ℕ) →
+    TheDescriptor (descriptor_at (after_change s e) process fd) P → TheDescriptor (descriptor_at (store_after s call e) process fd) P
+changed_kept P rests s call e process fd first =
     let entries = work_of s (at_of e).process ++ e ∷ [] in
     let of = fd_of_call call entries in
     let changed = after_change s e in
     let told = after_telling (tells_size e) changed (at_of e).process of in
     let after = store_after s call e in
-    let first : TheDescriptor (descriptor_at changed process fd) P =
-    ⊎_elim
-    (λ same.
-    TheDescriptor-map P same.0 (λ d is. rests d (same.0 d) (same.1 d).file (same.1 d).mode is) (descriptor_at s process fd)
-    (descriptor_at changed process fd) same.2 has)
-    (λ others.
-    ⊎_elim
-    (λ new. absurd (none-some has.0 (sym new.0 ∙ has.1)))
-    (λ gone. absurd (stays_open gone.0 gone.1))
-    others)
-    (after_change-becomes s call e fits process fd) in
     let second : TheDescriptor (descriptor_at told process fd) P =
     ⊎_elim
     (λ same. TheDescriptor-same P (descriptor_at changed process fd) (descriptor_at told process fd) same first)
@@ -76,6 +67,44 @@ descriptor_kept P rests s call e fits process fd stays_open has =
     (λ ended. TheDescriptor-map P with_known_size (λ d is. rests d (with_known_size d) refl refl is) (descriptor_at told process fd)
     (descriptor_at after process fd) ended.3 second)
     (after_call-cases (is_ended_by call entries) told (at_of e).process of entries process fd)
+
+-- it holds after an entry that does not close the descriptor
+pub descriptor_kept : (P : Descriptor → Type 0) → RestsOnFile P → (s : Store) (call : Call) (e : Entry) → HasRightDescriptor s (place_in s call (at_of e)) e →
+    (process fd : ℕ) → (is_close e ≡ true → process ≢ (at_of e).process) →
+    TheDescriptor (descriptor_at s process fd) P → TheDescriptor (descriptor_at (store_after s call e) process fd) P
+descriptor_kept P rests s call e fits process fd stays_open has =
+    let changed = after_change s e in
+    changed_kept P rests s call e process fd
+    (⊎_elim
+    (λ same.
+    TheDescriptor-map P same.0 (λ d is. rests d (same.0 d) (same.1 d).file (same.1 d).mode is) (descriptor_at s process fd)
+    (descriptor_at changed process fd) same.2 has)
+    (λ others.
+    ⊎_elim
+    (λ new. absurd (none-some has.0 (sym new.0 ∙ has.1)))
+    (λ gone. absurd (stays_open gone.0 gone.1))
+    others)
+    (after_change-becomes s call e fits process fd))
+
+-- a process that has such a descriptor has a row of them
+row_there : (opens : List (List (Option Descriptor))) (process k : ℕ) → k < length (slice_index_or opens process []) → process < length opens
+row_there [] process k within = absurd (omega arith)
+row_there (row ∷ opens) zero k within = omega arith
+row_there (row ∷ opens) (suc process) k within = let inside : process < length opens = row_there opens process k within in omega arith
+
+-- the descriptor that an entry opens is of its file
+pub opened_there : (s : Store) (call : Call) (at : At) (file fd : ℕ) (mode : Mode) (how : How) → lowest_fd s at.process ≡ Some fd →
+    TheDescriptor (descriptor_at (store_after s call (Opened at file fd mode how)) at.process fd) (λ d. d.file ≡ file)
+opened_there s call at file fd mode how lowest =
+    let e : Entry = Opened at file fd mode how in
+    let process : ℕ = at.process in
+    let slots : List (Option Descriptor) = slots_of s process in
+    let inside : fd < length slots = (position-Some is_empty_slot slots fd None lowest).0 in
+    let row : List (Option Descriptor) = slice_set slots fd (new_descriptor e) in
+    let there : descriptor_at (after_change s e) process fd ≡ new_descriptor e =
+    ap (λ (xs : List (Option Descriptor)). in_slot xs fd) (get_or-set_same s.opens process row [] (row_there s.opens process fd inside))
+    ∙ get_or-set_same slots fd (new_descriptor e) None inside in
+    changed_kept (λ d. d.file ≡ file) (λ d new same mode was. same ∙ was) s call e process fd (_, there, refl)
 
 -- ---- files
 

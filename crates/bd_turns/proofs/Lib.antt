@@ -13,12 +13,18 @@ pub mod PiecesThere
 pub mod OpenDescriptors
 pub mod CallsGoOn
 pub mod EffectiveTurns
+pub mod EndsOfRevocations
 pub mod EngineSteps
 pub mod EntriesOfCalls
 pub mod FilesOfCalls
 pub mod Growing
+pub mod HoldsAfterTurns
+pub mod Invalidations
+pub mod OwnActs
+pub mod RefusalsAfterTurns
 pub mod RefusalsStayAway
 pub mod Revocations
+pub mod RightsAfterTurns
 pub mod RightsOnFiles
 pub mod FoundElements
 pub mod RunningPlaces
@@ -53,3 +59,4 @@ pub mod ClosingCalls
 pub mod CommandSteps
 pub mod EngineCommands
 pub mod TurnsDone
+pub mod TruncationsAfterTurns

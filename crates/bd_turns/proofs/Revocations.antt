@@ -13,7 +13,7 @@ use Rattle.bd_turns.specs.declared.turn.Row.{Row}
 use Rattle.bd_turns.specs.declared.turn.Wait.{Wait}
 use Rattle.bd_turns.specs.declared.turn.Wait.TheVariants as waiting
 use Rattle.bd_turns.specs.Processors as processors
-use Rattle.bd_turns.specs.Processors.{Action, clear, post, revocation, uncleared, unposted}
+use Rattle.bd_turns.specs.Processors.{Action, clear, post, revocation, row_of_entry, uncleared, unposted}
 use Rattle.bd_turns.specs.State.{State}
 
 -- the key that was cleared last is posted, or the next one is cleared, or the process waits
@@ -51,6 +51,20 @@ pub record Clears (m : State) (p : Place) (keys : List Key) (e : Entry) : Type 0
   pub none_unposted : unposted m keys ≡ None
   pub next : uncleared m keys ≡ Some key
   pub entry_is : e ≡ entries.Cleared p.at key.process key.fd key.part
+
+-- the row of what an action adds
+abbrev row_by : Action → Option Row
+row_by (processors.Adds row e) = Some row
+row_by action = None
+
+-- it is of the row of that entry
+pub revokes-row : (m : State) (p : Place) (keys : List Key) (row : Row) (e : Entry) → revocation m p keys ≡ processors.Adds row e → row_of_entry e ≡ row
+revokes-row m p keys row e is = by (revocation m p keys) (revokes m p keys) (ap added_by is) (ap row_by is)
+  where
+    by : (action : Action) → Revokes m p keys action → added_by action ≡ Some e → row_by action ≡ Some row → row_of_entry e ≡ row
+    by action (posts key unposted) adds of_row = absurd (none-some e adds)
+    by action (clears key none next) adds of_row = ap row_of_entry (sym (same_Some _ e adds)) ∙ same_Some _ row of_row
+    by action (waits wait) adds of_row = absurd (none-some e adds)
 
 pub revokes-adds : (m : State) (p : Place) (keys : List Key) (row : Row) (e : Entry) → revocation m p keys ≡ processors.Adds row e → Clears m p keys e
 revokes-adds m p keys row e is = by (revocation m p keys) (revokes m p keys) (ap added_by is)
