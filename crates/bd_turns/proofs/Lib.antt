@@ -60,3 +60,4 @@ pub mod CommandSteps
 pub mod EngineCommands
 pub mod TurnsDone
 pub mod TruncationsAfterTurns
+pub mod EngineStepsOfCalls

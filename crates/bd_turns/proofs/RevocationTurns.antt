@@ -4,7 +4,8 @@ use Rattle.std.specs.Prelude.{count_by, drop, position}
 use Rattle.std.specs.Option.{option_map}
 use Rattle.std.specs.List.{list_any}
 use Rattle.std.specs.FinMap as fin
-use Rattle.std.specs.Ordering.{eq_by_cmp}
+use Rattle.std.specs.Cmp.{tied_itself}
+use Rattle.std.specs.Ordering.{is_eq}
 use Rattle.std.proofs.lemmas.Bool.{both_ways, cases_Bool, cond-false, cond-true, false_from_ne_true, false≢true, or_left, or_right}
 use Rattle.std.proofs.lemmas.List.Folds.{list_any-append}
 use Rattle.std.proofs.lemmas.List.Sums.{count_by-le-length}
@@ -14,16 +15,18 @@ use Rattle.bd_base.specs.Keys.{key_cmp, key_cmp_total, same_key, same_key-is}
 use Rattle.bd_tables.specs.declared.state.Right.{Right}
 use Rattle.bd_tables.specs.declared.state.RightState.{RightState}
 use Rattle.bd_tables.specs.declared.state.RightState.TheVariants as states
-use Rattle.bd_tables.specs.Effects.{change, none_swept}
+use Rattle.bd_tables.specs.Effects.{none_swept}
 use Rattle.bd_tables.specs.Sound.{IsKey}
 use Rattle.bd_tables.specs.State.{Rights}
-use Rattle.bd_tables.proofs.Maps.{other_key, other_key-change, other_key-remove, same_key-change, same_key-insert, same_key-remove}
 use Rattle.bd_turns.specs.Processors.{is_posted}
 use Rattle.bd_turns.specs.Rest.{key_turns, revocation_turns, right_turns, slot_turns}
 use Rattle.bd_turns.specs.State.{Posted}
 use Rattle.bd_turns.proofs.Sums.{sum_below_by, sum_bound, sum_less}
 
 -- ---- one key
+
+pub same_key-self : (key : Key) → same_key key key ≡ true
+same_key-self key = ap is_eq (tied_itself key_cmp_total key)
 
 -- each key takes at most as many turns
 abbrev pub NoneRises : Rights → List Posted → Rights → List Posted → (Key → Right → Bool) → Type 0
@@ -56,70 +59,64 @@ slot_posted test b c (Some right) keeps =
     cond_less (test right) (test right) (right_turns c right.state) (right_turns b right.state) refl (posted_less b c right.state keeps)
 
 -- at one key, or at another
-at_key : (P : Key → Type 0) (k key : Key) → (eq_by_cmp key_cmp key k ≡ false → P key) → P k → P key
+at_key : (P : Key → Type 0) (k key : Key) → (key ≢ k → P key) → P k → P key
 at_key P k key other here =
     ⊎_elim
     (λ same. subst P (sym (same_key-is key k same)) here)
-    other
-    (cases_Bool (eq_by_cmp key_cmp key k))
+    (λ apart. other (λ same. both_ways (same_key k k) (subst (λ (x : Key). same_key x k ≡ false) same apart) (same_key-self k)))
+    (cases_Bool (same_key key k))
 
 -- ---- a right in another state
 
-module _ (rights : Rights) (posted : List Posted) (k : Key) (r : Right) (f : Right → Right) (is : fin.get rights k ≡ Some r)
-    (test : Key → Right → Bool) (same : test k (f r) ≡ test k r) where
+module _ (rights after : Rights) (posted : List Posted) (k : Key) (r new : Right) (is : fin.get rights k ≡ Some r) (here : fin.get after k ≡ Some new)
+    (others : (other : Key) → other ≢ k → fin.get after other ≡ fin.get rights other) (test : Key → Right → Bool) (same : test k new ≡ test k r) where
   -- the turns of the key after the change, and before
-  after_is : key_turns (change rights k f) posted test k ≡ cond (test k (f r)) (right_turns (is_posted posted k) (f r).state) 0
-  after_is = ap (slot_turns (test k) (is_posted posted k)) (same_key-change key_cmp_total rights k f ∙ ap (option_map f) is)
+  after_is : key_turns after posted test k ≡ cond (test k new) (right_turns (is_posted posted k) new.state) 0
+  after_is = ap (slot_turns (test k) (is_posted posted k)) here
 
   before_is : key_turns rights posted test k ≡ cond (test k r) (right_turns (is_posted posted k) r.state) 0
   before_is = ap (slot_turns (test k) (is_posted posted k)) is
 
-  pub change_rises_not : right_turns (is_posted posted k) (f r).state ≤ right_turns (is_posted posted k) r.state →
-      NoneRises rights posted (change rights k f) posted test
+  pub change_rises_not : right_turns (is_posted posted k) new.state ≤ right_turns (is_posted posted k) r.state → NoneRises rights posted after posted test
   change_rises_not less key =
-      at_key (λ key. key_turns (change rights k f) posted test key ≤ key_turns rights posted test key) k key
+      at_key (λ key. key_turns after posted test key ≤ key_turns rights posted test key) k key
       (λ other.
-      let stays : key_turns (change rights k f) posted test key ≡ key_turns rights posted test key =
-      ap (slot_turns (test key) (is_posted posted key)) (other_key-change key_cmp_total rights k f key other) in
+      let stays : key_turns after posted test key ≡ key_turns rights posted test key =
+      ap (slot_turns (test key) (is_posted posted key)) (others key other) in
       omega arith)
-      (let here = cond_less (test k r) (test k (f r)) (right_turns (is_posted posted k) (f r).state) (right_turns (is_posted posted k) r.state) same less in
-      omega (arith, after_is, before_is, here))
+      (let less_here = cond_less (test k r) (test k new) (right_turns (is_posted posted k) new.state) (right_turns (is_posted posted k) r.state) same less in
+      omega (arith, after_is, before_is, less_here))
 
-  pub change_falls : test k r ≡ true → right_turns (is_posted posted k) (f r).state + 1 ≤ right_turns (is_posted posted k) r.state →
-      key_turns (change rights k f) posted test k + 1 ≤ key_turns rights posted test k
+  pub change_falls : test k r ≡ true → right_turns (is_posted posted k) new.state + 1 ≤ right_turns (is_posted posted k) r.state →
+      key_turns after posted test k + 1 ≤ key_turns rights posted test k
   change_falls passes less =
-      let here =
-      cond_falls (test k r) (test k (f r)) (right_turns (is_posted posted k) (f r).state) (right_turns (is_posted posted k) r.state) same passes less in
-      omega (arith, after_is, before_is, here)
+      let falls_here =
+      cond_falls (test k r) (test k new) (right_turns (is_posted posted k) new.state) (right_turns (is_posted posted k) r.state) same passes less in
+      omega (arith, after_is, before_is, falls_here)
 
 -- ---- a right that is taken away
 
-module _ (rights : Rights) (post : Posted) (rest : List Posted) (test : Key → Right → Bool) where
-  pub remove_rises_not : NoneRises rights (post ∷ rest) (fin.remove rights post.key) rest test
+module _ (rights after : Rights) (post : Posted) (rest : List Posted) (here : fin.get after post.key ≡ None)
+    (others : (other : Key) → other ≢ post.key → fin.get after other ≡ fin.get rights other) (test : Key → Right → Bool) where
+  gone : key_turns after rest test post.key ≡ 0
+  gone = ap (slot_turns (test post.key) (is_posted rest post.key)) here
+
+  pub remove_rises_not : NoneRises rights (post ∷ rest) after rest test
   remove_rises_not key =
-      at_key (λ key. key_turns (fin.remove rights post.key) rest test key ≤ key_turns rights (post ∷ rest) test key) post.key key
+      at_key (λ key. key_turns after rest test key ≤ key_turns rights (post ∷ rest) test key) post.key key
       (λ other.
       let apart : same_key post.key key ≡ false =
-      false_from_ne_true (same_key post.key key)
-      (λ same.
-      both_ways (eq_by_cmp key_cmp key post.key) other
-      (subst (λ (x : Key). eq_by_cmp key_cmp x post.key ≡ true) (same_key-is post.key key same)
-      (subst (λ (x : Key). eq_by_cmp key_cmp post.key x ≡ true) (sym (same_key-is post.key key same)) same))) in
+      false_from_ne_true (same_key post.key key) (λ same. other (sym (same_key-is post.key key same))) in
       let posted_same : is_posted (post ∷ rest) key ≡ is_posted rest key = ap (λ (b : Bool). b || is_posted rest key) apart in
-      let slot_same : fin.get (fin.remove rights post.key) key ≡ fin.get rights key = other_key-remove key_cmp_total rights post.key key other in
-      let stays : key_turns (fin.remove rights post.key) rest test key ≡ key_turns rights (post ∷ rest) test key =
-      ap (slot_turns (test key) (is_posted rest key)) slot_same
+      let stays : key_turns after rest test key ≡ key_turns rights (post ∷ rest) test key =
+      ap (slot_turns (test key) (is_posted rest key)) (others key other)
       ∙ ap (λ (b : Bool). slot_turns (test key) b (fin.get rights key)) (sym posted_same) in
       omega arith)
-      (let gone : key_turns (fin.remove rights post.key) rest test post.key ≡ 0 =
-      ap (slot_turns (test post.key) (is_posted rest post.key)) (same_key-remove key_cmp_total rights post.key) in
-      omega arith)
+      (omega (arith, gone))
 
   pub remove_falls : (r : Right) → fin.get rights post.key ≡ Some r → test post.key r ≡ true → 1 ≤ right_turns (is_posted (post ∷ rest) post.key) r.state →
-      key_turns (fin.remove rights post.key) rest test post.key + 1 ≤ key_turns rights (post ∷ rest) test post.key
+      key_turns after rest test post.key + 1 ≤ key_turns rights (post ∷ rest) test post.key
   remove_falls r is passes some =
-      let gone : key_turns (fin.remove rights post.key) rest test post.key ≡ 0 =
-      ap (slot_turns (test post.key) (is_posted rest post.key)) (same_key-remove key_cmp_total rights post.key) in
       let turns : ℕ = right_turns (is_posted (post ∷ rest) post.key) r.state in
       let was : key_turns rights (post ∷ rest) test post.key ≡ turns =
       ap (slot_turns (test post.key) (is_posted (post ∷ rest) post.key)) is ∙ cond-true (test post.key r) turns 0 passes in
@@ -130,42 +127,55 @@ module _ (rights : Rights) (post : Posted) (rest : List Posted) (test : Key → 
 is_posted-push : (posted : List Posted) (post : Posted) (key : Key) → is_posted (posted ++ post ∷ []) key ≡ (is_posted posted key || (same_key post.key key || false))
 is_posted-push posted post key = list_any-append (λ (p : Posted). same_key p.key key) posted (post ∷ [])
 
-pub post_rises_not : (rights : Rights) (posted : List Posted) (post : Posted) (test : Key → Right → Bool) →
-    NoneRises rights posted rights (posted ++ post ∷ []) test
-post_rises_not rights posted post test key =
-    slot_posted (test key) (is_posted posted key) (is_posted (posted ++ post ∷ []) key) (fin.get rights key)
-    (λ was. is_posted-push posted post key ∙ or_left (is_posted posted key) (same_key post.key key || false) was)
+module _ (rights after : Rights) (posted : List Posted) (post : Posted) (stays : (key : Key) → fin.get after key ≡ fin.get rights key)
+    (test : Key → Right → Bool) where
+  pub post_rises_not : NoneRises rights posted after (posted ++ post ∷ []) test
+  post_rises_not key =
+      let less =
+      slot_posted (test key) (is_posted posted key) (is_posted (posted ++ post ∷ []) key) (fin.get rights key)
+      (λ was. is_posted-push posted post key ∙ or_left (is_posted posted key) (same_key post.key key || false) was) in
+      let same : key_turns after (posted ++ post ∷ []) test key ≡ key_turns rights (posted ++ post ∷ []) test key =
+      ap (slot_turns (test key) (is_posted (posted ++ post ∷ []) key)) (stays key) in
+      omega (arith, same, less)
 
-pub post_falls : (rights : Rights) (posted : List Posted) (post : Posted) (test : Key → Right → Bool) (r : Right) → fin.get rights post.key ≡ Some r →
-    r.state ≡ states.Cleared → test post.key r ≡ true → is_posted posted post.key ≡ false → same_key post.key post.key ≡ true →
-    key_turns rights (posted ++ post ∷ []) test post.key + 1 ≤ key_turns rights posted test post.key
-post_falls rights posted post test r is cleared passes unposted itself =
-    let now : is_posted (posted ++ post ∷ []) post.key ≡ true =
-    is_posted-push posted post post.key
-    ∙ or_right (is_posted posted post.key) (same_key post.key post.key || false) (or_left (same_key post.key post.key) false itself) in
-    let turns : Bool → RightState → ℕ = λ b state. cond (test post.key r) (right_turns b state) 0 in
-    let after : key_turns rights (posted ++ post ∷ []) test post.key ≡ 18 =
-    ap (slot_turns (test post.key) (is_posted (posted ++ post ∷ []) post.key)) is
-    ∙ ap (λ (b : Bool). turns b r.state) now ∙ ap (turns true) cleared ∙ cond-true (test post.key r) 18 0 passes in
-    let before : key_turns rights posted test post.key ≡ 19 =
-    ap (slot_turns (test post.key) (is_posted posted post.key)) is
-    ∙ ap (λ (b : Bool). turns b r.state) unposted ∙ ap (turns false) cleared ∙ cond-true (test post.key r) 19 0 passes in
-    omega (arith, after, before)
+  pub post_falls : (r : Right) → fin.get rights post.key ≡ Some r → r.state ≡ states.Cleared → test post.key r ≡ true → is_posted posted post.key ≡ false →
+      key_turns after (posted ++ post ∷ []) test post.key + 1 ≤ key_turns rights posted test post.key
+  post_falls r is cleared passes unposted =
+      let now : is_posted (posted ++ post ∷ []) post.key ≡ true =
+      is_posted-push posted post post.key
+      ∙ or_right (is_posted posted post.key) (same_key post.key post.key || false) (or_left (same_key post.key post.key) false (same_key-self post.key)) in
+      let turns : Bool → RightState → ℕ = λ b state. cond (test post.key r) (right_turns b state) 0 in
+      let new : key_turns after (posted ++ post ∷ []) test post.key ≡ 18 =
+      ap (slot_turns (test post.key) (is_posted (posted ++ post ∷ []) post.key)) (stays post.key ∙ is)
+      ∙ ap (λ (b : Bool). turns b r.state) now ∙ ap (turns true) cleared ∙ cond-true (test post.key r) 18 0 passes in
+      let before : key_turns rights posted test post.key ≡ 19 =
+      ap (slot_turns (test post.key) (is_posted posted post.key)) is
+      ∙ ap (λ (b : Bool). turns b r.state) unposted ∙ ap (turns false) cleared ∙ cond-true (test post.key r) 19 0 passes in
+      omega (arith, new, before)
 
 -- ---- a new right that is none of these
 
-pub attach_rises_not : (rights : Rights) (posted : List Posted) (k : Key) (r : Right) (test : Key → Right → Bool) → test k r ≡ false →
-    NoneRises rights posted (fin.insert rights k r) posted test
-attach_rises_not rights posted k r test fails key =
-    at_key (λ key. key_turns (fin.insert rights k r) posted test key ≤ key_turns rights posted test key) k key
+pub attach_rises_not : (rights after : Rights) (posted : List Posted) (k : Key) (r : Right) (test : Key → Right → Bool) → fin.get after k ≡ Some r →
+    ((other : Key) → other ≢ k → fin.get after other ≡ fin.get rights other) → test k r ≡ false → NoneRises rights posted after posted test
+attach_rises_not rights after posted k r test here others fails key =
+    at_key (λ key. key_turns after posted test key ≤ key_turns rights posted test key) k key
     (λ other.
-    let stays : key_turns (fin.insert rights k r) posted test key ≡ key_turns rights posted test key =
-    ap (slot_turns (test key) (is_posted posted key)) (other_key key_cmp_total rights k r key other) in
+    let stays : key_turns after posted test key ≡ key_turns rights posted test key =
+    ap (slot_turns (test key) (is_posted posted key)) (others key other) in
     omega arith)
     (let turns : ℕ = right_turns (is_posted posted k) r.state in
-    let none : key_turns (fin.insert rights k r) posted test k ≡ 0 =
-    ap (slot_turns (test k) (is_posted posted k)) (same_key-insert key_cmp_total rights k r) ∙ cond-false (test k r) turns 0 fails in
+    let none : key_turns after posted test k ≡ 0 =
+    ap (slot_turns (test k) (is_posted posted k)) here ∙ cond-false (test k r) turns 0 fails in
     omega arith)
+
+-- ---- rights that stay
+
+pub stay_rises_not : (rights after : Rights) (posted : List Posted) (test : Key → Right → Bool) → ((key : Key) → fin.get after key ≡ fin.get rights key) →
+    NoneRises rights posted after posted test
+stay_rises_not rights after posted test stays key =
+    let same : key_turns after posted test key ≡ key_turns rights posted test key =
+    ap (slot_turns (test key) (is_posted posted key)) (stays key) in
+    omega arith
 
 -- ---- all keys
 

@@ -25,7 +25,7 @@ use Rattle.bd_tables.specs.State.{TableState}
 use Rattle.bd_turns.proofs.AddedByActs.{processor_adds}
 use Rattle.bd_turns.proofs.ClosingCalls.{leaves_cleared}
 use Rattle.bd_turns.proofs.DoneTurns.{IsDone, grown, progress_of-other, progress_of-set}
-use Rattle.bd_turns.proofs.EngineSteps.{StepDoes, at_none, step_access, step_all, step_commands, step_ended, step_held, step_is}
+use Rattle.bd_turns.proofs.EngineStepsOfCalls.{StepDoes, at_none, step_access, step_all, step_commands, step_ended, step_held, step_is}
 use Rattle.bd_turns.proofs.KeptCalls.{in_turn_kept, processes_kept, unended_kept, unrefused_kept}
 use Rattle.bd_turns.proofs.KeptCommands.{clears_kept, commands_kept, device_kept, no_commands}
 use Rattle.bd_turns.proofs.LegalActs.{none_as_added, none_without_pieces, pieces_outstanding}
