@@ -1,6 +1,7 @@
 -- Each turn keeps each call within the turns that it may take.
 use Rattle.bd_turns.specs.Rest.{TurnsKeepWithin}
 use Rattle.bd_turns.proofs.RevocationTurns.{revocation_bound}
+use Rattle.bd_turns.proofs.RightsOfTurns.{changes_lower}
 use Rattle.bd_turns.proofs.GrowthTurns.{size_most}
 
 pub turns_keep_within : TurnsKeepWithin

@@ -61,3 +61,4 @@ pub mod EngineCommands
 pub mod TurnsDone
 pub mod TruncationsAfterTurns
 pub mod EngineStepsOfCalls
+pub mod RightsOfTurns
