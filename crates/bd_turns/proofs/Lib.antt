@@ -62,3 +62,4 @@ pub mod TurnsDone
 pub mod TruncationsAfterTurns
 pub mod EngineStepsOfCalls
 pub mod RightsOfTurns
+pub mod OwnRevocations

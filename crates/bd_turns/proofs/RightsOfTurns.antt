@@ -8,7 +8,7 @@ use Rattle.std.proofs.lemmas.List.Quantifiers.{position-Some}
 use Rattle.std.proofs.lemmas.List.Sums.{sum_by-set}
 use Rattle.std.proofs.lemmas.Option.{none-some, same_Some}
 use Rattle.bd_base.specs.declared.key.Key.{Key}
-use Rattle.bd_base.specs.Keys.{same_key}
+use Rattle.bd_base.specs.Keys.{key_cmp_total, same_key}
 use Rattle.bd_entry.specs.declared.entry.Entry.{Entry}
 use Rattle.bd_entry.specs.Calls.{Place}
 use Rattle.bd_entry.proofs.NextActs.{then_from}
@@ -18,6 +18,7 @@ use Rattle.bd_tables.specs.declared.state.RightState.TheVariants as states
 use Rattle.bd_tables.specs.Effects as effects
 use Rattle.bd_tables.specs.Sound.{IsKey}
 use Rattle.bd_tables.specs.State.{Rights, TableState, engines_in}
+use Rattle.bd_tables.proofs.Maps.{other_key-change}
 use Rattle.bd_turns.specs.declared.turn.Row.{Row}
 use Rattle.bd_turns.specs.declared.turn.Row.TheVariants as rows
 use Rattle.bd_turns.specs.declared.turn.Wait.TheVariants as waits
@@ -27,7 +28,7 @@ use Rattle.bd_turns.specs.Processors.{is_posted}
 use Rattle.bd_turns.specs.Rest.{key_turns, revocation_turns, right_turns}
 use Rattle.bd_turns.specs.State.{Posted, State}
 use Rattle.bd_turns.proofs.RevocationTurns.{NoneRises, attach_rises_not, change_falls, change_rises_not, post_falls, post_rises_not, remove_falls, remove_rises_not, revocation_falls, revocation_rises_not, same_key-self, stay_rises_not}
-use Rattle.bd_turns.proofs.RightsAfterTurns.{Changes, IsFront, SetsAt, attaches, clears, detaches, leaves, moves, posts, state_set}
+use Rattle.bd_turns.proofs.RightsAfterTurns.{Changes, IsFront, SetsAt, attaches, clears, detaches, leaves, moves, other_keys, posts, state_set}
 
 -- ---- the state of the right at the front
 
@@ -37,10 +38,11 @@ changed_to (engines.Changes row tables) = Some tables
 changed_to invalidation = None
 
 -- the right of the request at the front has another state in these tables, which takes fewer turns
-record Lowers (tables after : TableState) (key : Key) (right : Right) : Type 0 where
-  state : RightState
-  now : fin.get after.rights key ≡ Some (record right { state = state })
-  less : right_turns true state + 1 ≤ right_turns true right.state
+pub record Lowers (tables after : TableState) (key : Key) (right : Right) : Type 0 where
+  pub state : RightState
+  pub now : fin.get after.rights key ≡ Some (record right { state = state })
+  pub others : (other : Key) → other ≢ key → fin.get after.rights other ≡ fin.get tables.rights other
+  pub less : right_turns true state + 1 ≤ right_turns true right.state
 
 drained_turns : count_by not effects.none_swept ≡ 16
 drained_turns = refl
@@ -56,7 +58,7 @@ swept_turns swept line is =
     sum_by-set one swept line true true within in
     omega (arith, here, sums)
 
-lowers_by : (tables after : TableState) (post : Posted) (right : Right) → fin.get tables.rights post.key ≡ Some right → (state : RightState) →
+pub lowers_by : (tables after : TableState) (post : Posted) (right : Right) → fin.get tables.rights post.key ≡ Some right → (state : RightState) →
     right.state ≡ state → (i : Invalidation) → invalidate tables post state ≡ Some i → changed_to i ≡ Some after → Lowers tables after post.key right
 lowers_by tables after post right there states.On is i does to = absurd (none-some i does)
 lowers_by tables after post right there states.Cleared is i does to =
@@ -78,6 +80,9 @@ lowers_by tables after post right there states.Cleared is i does to =
           now =
               ap (λ (t : TableState). fin.get t.rights post.key) (sym same)
               ∙ state_set tables.rights post.key (λ (r : Right). record r { state = drained }) right there;
+          others = λ other differ.
+              ap (λ (t : TableState). fin.get t.rights other) (sym same)
+              ∙ other_key-change key_cmp_total tables.rights post.key (λ (r : Right). record r { state = drained }) other (other_keys other post.key differ);
           less = omega (arith, old, drained_turns);
         }
 lowers_by tables after post right there (states.Drained swept) is i does to =
@@ -98,6 +103,9 @@ lowers_by tables after post right there (states.Drained swept) is i does to =
           now =
               ap (λ (t : TableState). fin.get t.rights post.key) (sym same) ∙ state_set tables.rights post.key f right there
               ∙ ap (λ (s : RightState). Some (record right { state = effects.sweep_state line s })) is;
+          others = λ other differ.
+              ap (λ (t : TableState). fin.get t.rights other) (sym same)
+              ∙ other_key-change key_cmp_total tables.rights post.key f other (other_keys other post.key differ);
           less = omega (arith, old, fewer);
         }
 
@@ -130,11 +138,11 @@ changes_lower m next row tables acting same post rest right state list there now
 abbrev pub KeepsTest : (Key → Right → Bool) → Type 0
 KeepsTest test = (key : Key) (right : Right) (state : RightState) → test key (record right { state = state }) ≡ test key right
 
-front_posted : (posted : List Posted) (post : Posted) (rest : List Posted) → posted ≡ post ∷ rest → is_posted posted post.key ≡ true
+pub front_posted : (posted : List Posted) (post : Posted) (rest : List Posted) → posted ≡ post ∷ rest → is_posted posted post.key ≡ true
 front_posted posted post rest is =
     ap (λ (l : List Posted). is_posted l post.key) is ∙ or_left (same_key post.key post.key) (is_posted rest post.key) (same_key-self post.key)
 
-some_turns : (b : Bool) (state : RightState) → 1 ≤ right_turns b state
+pub some_turns : (b : Bool) (state : RightState) → 1 ≤ right_turns b state
 some_turns b states.On = omega arith
 some_turns true states.Cleared = omega arith
 some_turns false states.Cleared = omega arith
