@@ -63,3 +63,4 @@ pub mod TruncationsAfterTurns
 pub mod EngineStepsOfCalls
 pub mod RightsOfTurns
 pub mod OwnRevocations
+pub mod PieceTurns
