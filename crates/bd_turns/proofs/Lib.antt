@@ -28,3 +28,4 @@ pub mod CommandSteps
 pub mod EngineCommands
 pub mod EngineSteps
 pub mod TurnsDone
+pub mod ProcessorTurns

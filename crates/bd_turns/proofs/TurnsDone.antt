@@ -145,7 +145,7 @@ module _ (v : Volume) (m : State) (p : Place) (reached : IsReached v m) (is : ru
   device_now = reached.sound.calls.for_device process p is
 
 -- an entry that is not there leaves all open
-none_leaves : {A : Type 0} (e : Entry) → None ≡ Some e → A
+pub none_leaves : {A : Type 0} (e : Entry) → None ≡ Some e → A
 none_leaves e none = absurd (none-some e none)
 
 -- the entries without a new one
