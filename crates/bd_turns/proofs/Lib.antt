@@ -29,3 +29,4 @@ pub mod EngineCommands
 pub mod EngineSteps
 pub mod TurnsDone
 pub mod ProcessorTurns
+pub mod EngineTurns
