@@ -1,17 +1,15 @@
 -- What a processor adds an entry for: an act of its call, or the next key that is cleared.
-use Rattle.std.proofs.Common.{◌≡◌, ◌≢◌, ◌⊎◌, inl, inr, ℕ, Bool, true, false, not, ◌&&◌, cond, List, [], ◌∷◌, length, Option, None, Some, refl, sym, ap, ◌∙◌, subst, arith, ⊎_elim}
-use Rattle.std.specs.Prelude.{nat_lt, All}
-use Rattle.std.specs.Option.{option_and_then, option_map, option_or}
-use Rattle.std.proofs.lemmas.Bool.{cases_Bool}
+use Rattle.std.proofs.Common.{◌≡◌, ◌⊎◌, inl, inr, ℕ, Bool, true, false, cond, List, length, Option, None, Some, refl, sym, ap, ◌∙◌, ⊎_elim}
+use Rattle.std.specs.Prelude.{nat_lt}
+use Rattle.std.specs.Option.{option_map}
 use Rattle.std.proofs.lemmas.Option.{none-some, same_Some}
 use Rattle.bd_base.specs.declared.key.Key.{Key}
 use Rattle.bd_base.specs.declared.limits.TheConstants.{POSTS}
-use Rattle.bd_base.specs.declared.script.Call.{Call}
 use Rattle.bd_entry.specs.declared.act.Act.{Act}
 use Rattle.bd_entry.specs.declared.act.Act.TheVariants as acts
 use Rattle.bd_entry.specs.declared.entry.Entry.{Entry}
 use Rattle.bd_entry.specs.declared.entry.Entry.TheVariants as entries
-use Rattle.bd_entry.specs.Actions.{Running, entry_of_act, is_none_of, next_act}
+use Rattle.bd_entry.specs.Actions.{entry_of_act, is_none_of, next_act}
 use Rattle.bd_entry.specs.Calls.{Place}
 use Rattle.bd_entry.proofs.NextActs.{map_from, then_from}
 use Rattle.bd_turns.specs.declared.turn.Row.{Row}

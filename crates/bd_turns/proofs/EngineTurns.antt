@@ -1,11 +1,10 @@
 -- The turns of engines leave the calls sound; so does every turn.
-use Rattle.std.proofs.Common.{◌≡◌, ◌≢◌, ℕ, Bool, true, false, not, cond, List, [], ◌∷◌, ◌++◌, drop, length, Option, None, Some, refl, sym, ap, ◌∙◌, subst, ⊎_elim}
-use Rattle.std.specs.Prelude.{nat_eq, position, slice_get, All}
-use Rattle.std.specs.Option.{option_map_or, option_to_list}
+use Rattle.std.proofs.Common.{◌≡◌, ℕ, Bool, true, false, not, cond, List, [], ◌∷◌, drop, length, Option, None, Some, refl, sym, ap, ◌∙◌, subst, ⊎_elim}
+use Rattle.std.specs.Prelude.{nat_eq, position}
+use Rattle.std.specs.Option.{option_map_or}
 use Rattle.std.specs.List.{list_any}
 use Rattle.std.specs.FinMap as fin
 use Rattle.std.proofs.lemmas.Bool.{false≢true, or_cases}
-use Rattle.std.proofs.lemmas.List.Elements.{All-nil}
 use Rattle.std.proofs.lemmas.List.Folds.{list_any-append}
 use Rattle.std.proofs.lemmas.Option.{none-some, same_Some}
 use Rattle.bd_base.specs.declared.key.Key.{Key}
@@ -45,8 +44,8 @@ use Rattle.bd_turns.specs.declared.turn.Wait.TheVariants as waits
 use Rattle.bd_turns.specs.Engines as engines
 use Rattle.bd_turns.specs.Engines.{Invalidation, Step, detach, drain, engine_step, invalidate, invalidation_of, sweep_or_detach}
 use Rattle.bd_turns.specs.Reached.{IsReached, TurnsKeepCalls}
-use Rattle.bd_turns.specs.Sound.{AreCallsSound, AreCommands, is_clear_at}
-use Rattle.bd_turns.specs.State.{Posted, Progress, State, outstanding, progress_of, running, with_progress}
+use Rattle.bd_turns.specs.Sound.{AreCallsSound, is_clear_at}
+use Rattle.bd_turns.specs.State.{Posted, State, outstanding, progress_of, running, with_progress}
 use Rattle.bd_turns.specs.Turns.{after_effect, after_ending, after_step, after_turn, posting_place, with_entry, with_entry_if_any}
 
 -- ---- entries that clear, refuse and close nothing

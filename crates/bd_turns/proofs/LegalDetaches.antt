@@ -1,23 +1,21 @@
 -- The rights that the invalidation engine takes away may be taken away there.
 use Rattle.std.proofs.Common.{◌≡◌, ◌≢◌, ℕ, Bool, true, false, not, cond, List, [], ◌∷◌, Option, None, Some, refl, sym, ap, ◌∙◌, subst}
-use Rattle.std.specs.Prelude.{nat_eq, position, slice_get, All}
-use Rattle.std.specs.Option.{option_and_then, option_map, option_map_or}
+use Rattle.std.specs.Prelude.{nat_eq, position, slice_get}
+use Rattle.std.specs.Option.{option_map, option_map_or}
 use Rattle.std.specs.List.{list_any}
 use Rattle.std.specs.FinMap as fin
 use Rattle.std.proofs.lemmas.Bool.{false≢true}
 use Rattle.std.proofs.lemmas.Option.{none-some, same_Some}
 use Rattle.bd_base.specs.declared.journal.At.{At}
 use Rattle.bd_base.specs.declared.key.Key.{Key}
-use Rattle.bd_base.specs.declared.script.Call.{Call}
 use Rattle.bd_base.specs.declared.volume.Volume.{Volume}
 use Rattle.bd_entry.specs.declared.entry.Entry.{Entry}
 use Rattle.bd_entry.specs.declared.entry.Entry.TheVariants as entries
-use Rattle.bd_entry.specs.Calls.{Place, call_at, entries_of, has_cleared}
+use Rattle.bd_entry.specs.Calls.{Place, call_at, has_cleared}
 use Rattle.bd_entry.specs.Laws.{AreOfCall}
 use Rattle.bd_entry.specs.NextEntries.{IsLegalAt}
 use Rattle.bd_entry.specs.Refusals.{file_of}
 use Rattle.bd_entry.specs.Rules.{EntryRule, FitsStore, IsOpen, NotRefused, RightFile, Rights}
-use Rattle.bd_entry.specs.RulesOfContents.{MayBegin}
 use Rattle.bd_entry.specs.Store.{Descriptor, Store, descriptor_at, has_part}
 use Rattle.bd_entry.proofs.CallOrder.{start_of}
 use Rattle.bd_entry.proofs.HistoryLaws.{history_leads}
@@ -107,9 +105,11 @@ posting v m p reached is =
     let runs = runs_at m post.by.process q by.1 in
     let call_is : q.call ≡ called.0 =
     same_Some q.call called.0 (sym runs.called ∙ ap (call_at m.script) by.2 ∙ called.1) in
-    let same : q ≡ p =
-    ap (λ (before : List Entry). record { call = q.call; at = q.at; before = before }) runs.before_is
-    ∙ ap (λ (at : At). place_of m at q.call) by.2 ∙ ap (place_of m post.by) call_is ∙ called.2 in
+    let here : q ≡ place_of m q.at q.call =
+    ap (λ (before : List Entry). record { call = q.call; at = q.at; before = before }) runs.before_is in
+    let there : place_of m q.at q.call ≡ place_of m post.by called.0 =
+    ap (λ (at : At). place_of m at q.call) by.2 ∙ ap (place_of m post.by) call_is in
+    let same : q ≡ p = here ∙ (there ∙ called.2) in
     subst (IsPosting m) same
     (record {
       post = post;

@@ -30,3 +30,4 @@ pub mod EngineSteps
 pub mod TurnsDone
 pub mod ProcessorTurns
 pub mod EngineTurns
+pub mod Booting

@@ -1,7 +1,7 @@
 -- An act that revokes keys is that of a call that has them to revoke, and one that submits a piece that of a call whose
 -- piece is still to be submitted.
-use Rattle.std.proofs.Common.{◌≡◌, ◌≢◌, ◌⊎◌, inl, inr, ℕ, Bool, true, false, not, ◌&&◌, cond, List, [], ◌∷◌, length, Option, None, Some, refl, sym, ap, ◌∙◌, subst, ⊎_elim}
-use Rattle.std.specs.Prelude.{nat_eq, nat_lt}
+use Rattle.std.proofs.Common.{◌≡◌, ◌⊎◌, inl, inr, ℕ, Bool, true, false, not, ◌&&◌, cond, List, [], ◌∷◌, length, Option, None, Some, refl, sym, ap, ◌∙◌, ⊎_elim}
+use Rattle.std.specs.Prelude.{nat_eq}
 use Rattle.std.specs.Option.{option_and_then, option_map, option_map_or, option_or}
 use Rattle.std.specs.List.{find}
 use Rattle.std.proofs.lemmas.Bool.{both_ways, false≢true}
@@ -20,7 +20,7 @@ use Rattle.bd_entry.specs.Calls.{Place, does_write, fd_of, piece_end, piece_of_c
 use Rattle.bd_entry.specs.Refusals.{descriptor_of, file_of, first_refusal, growth_reason_of, is_next_for_kernel, next_size}
 use Rattle.bd_entry.specs.RulesOfContents.{MayBegin}
 use Rattle.bd_entry.specs.Store.{Descriptor, Store, blocks_in, descriptor_at, lowest_fd, next_part, size_in}
-use Rattle.bd_entry.proofs.NextActs.{map_from, map_or_from, or_from_either, then_from}
+use Rattle.bd_entry.proofs.NextActs.{map_from, or_from_either}
 
 -- whether the act revokes keys, submits or polls
 abbrev is_special : Act → Bool

@@ -1,15 +1,15 @@
 -- The turns of processors leave the calls sound.
-use Rattle.std.proofs.Common.{◌≡◌, ◌≢◌, ℕ, ◌+◌, ◌<◌, Bool, true, false, ◌||◌, ◌&&◌, not, cond, List, [], ◌∷◌, ◌++◌, length, Option, None, Some, refl, sym, ap, ◌∙◌, subst, arith, ⊎_elim}
+use Rattle.std.proofs.Common.{◌≡◌, ℕ, ◌+◌, ◌<◌, true, false, ◌||◌, ◌&&◌, List, [], ◌∷◌, ◌++◌, length, Option, None, Some, refl, sym, ap, subst, arith, ⊎_elim}
 use Rattle.std.specs.Prelude.{nat_eq, All}
 use Rattle.std.specs.Option.{option_map_or}
 use Rattle.std.specs.List.{list_any}
 use Rattle.std.proofs.lemmas.Bool.{and_parts, cond-true, false≢true, or_parts}
 use Rattle.std.proofs.lemmas.List.Elements.{All-nil}
-use Rattle.std.proofs.lemmas.Option.{none-some, same_Some}
+use Rattle.std.proofs.lemmas.Option.{same_Some}
 use Rattle.bd_base.specs.declared.journal.At.{At}
 use Rattle.bd_base.specs.declared.key.Key.{Key}
 use Rattle.bd_base.specs.declared.script.Call.{Call}
-use Rattle.bd_base.specs.declared.script.Call.TheVariants.{Enter, Create, Read, Write, Truncate, Unlink, Size, Map, Close, RawRead, RawWrite}
+use Rattle.bd_base.specs.declared.script.Call.TheVariants.{Enter, Create, Truncate, Close}
 use Rattle.bd_base.specs.declared.script.How.TheVariants as hows
 use Rattle.bd_base.specs.declared.volume.Volume.{Volume}
 use Rattle.bd_base.proofs.Ranges.{find-range_lowest}
@@ -23,7 +23,7 @@ use Rattle.bd_entry.specs.Store.{Descriptor, Store, descriptor_at}
 use Rattle.bd_entry.proofs.Accesses.{of_call-in_store}
 use Rattle.bd_entry.proofs.NextOpens.{not-true}
 use Rattle.bd_tables.specs.State.{TableState}
-use Rattle.bd_turns.proofs.AddedByActs.{IsClear, processor_adds, processor_submits}
+use Rattle.bd_turns.proofs.AddedByActs.{processor_adds, processor_submits}
 use Rattle.bd_turns.proofs.ClosingCalls.{leaves_cleared}
 use Rattle.bd_turns.proofs.CommandSteps.{polled, polled_all, polled_commands, submitted_all, submitted_commands, with_submitted}
 use Rattle.bd_turns.proofs.DoneTurns.{IsDone, grown}
@@ -32,7 +32,7 @@ use Rattle.bd_turns.proofs.KeptCommands.{no_commands}
 use Rattle.bd_turns.proofs.LegalActs.{none_as_added, none_without_pieces, pieces_outstanding}
 use Rattle.bd_turns.proofs.NextRevocations.{next_submits}
 use Rattle.bd_turns.proofs.StayingDescriptors.{LeavesOpen}
-use Rattle.bd_turns.proofs.TurnsDone.{LeavesCalls, before_none, calls_sound, commands_now, device_now, held_before, none_leaves, set_done, within}
+use Rattle.bd_turns.proofs.TurnsDone.{LeavesCalls, before_none, calls_sound, commands_now, device_now, held_before, none_leaves, set_done}
 use Rattle.bd_turns.specs.Added.{IsAdded}
 use Rattle.bd_turns.specs.declared.turn.Row.{Row}
 use Rattle.bd_turns.specs.declared.turn.Row.TheVariants as rows

@@ -6,5 +6,5 @@ mod turn;
 mod turn_laws;
 
 pub use laws::{journal_grows, one_course, turns_without_effect};
-pub use turn_laws::{turns_add_legally, turns_keep_calls, turns_keep_history};
 pub use turn::{Event, EventList, Row, Turn, Wait};
+pub use turn_laws::{boot_is_reached, turns_add_legally, turns_keep_calls, turns_keep_history};

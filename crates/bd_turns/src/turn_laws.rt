@@ -1,5 +1,10 @@
 //! What holds of the machine at every moment. Each law is the contract of a function that does nothing.
-ghost use Rattle.bd_turns.specs.Reached.{TurnsAddLegally, TurnsKeepCalls, TurnsKeepHistory};
+ghost use Rattle.bd_turns.specs.Reached.{BootIsReached, TurnsAddLegally, TurnsKeepCalls, TurnsKeepHistory};
+
+/// A machine begins with an empty history, and sound.
+pub fn boot_is_reached()
+    ensures { BootIsReached }
+{}
 
 /// Each entry that a turn adds is the next one of the journal, and legal there.
 pub fn turns_add_legally()
