@@ -40,6 +40,7 @@ use Rattle.bd_turns.proofs.TurnsDone.{LeavesCalls, before_none, calls_sound, com
 use Rattle.bd_turns.specs.Added.{by_engine, by_invalidation, by_processor, EntriesAreNext, IsAdded}
 use Rattle.bd_turns.specs.declared.turn.Row.{Row}
 use Rattle.bd_turns.specs.declared.turn.Row.TheVariants as rows
+use Rattle.bd_turns.specs.declared.turn.Wait.{Wait}
 use Rattle.bd_turns.specs.declared.turn.Wait.TheVariants as waits
 use Rattle.bd_turns.specs.Engines as engines
 use Rattle.bd_turns.specs.Engines.{Invalidation, Step, detach, drain, engine_step, invalidate, invalidation_of, sweep_or_detach}
@@ -124,13 +125,12 @@ walks_after tables (engines.Ends entry after) = after.walks
 walks_after tables (engines.WaitsFor wait) = tables.walks
 
 drain_walks : (tables : TableState) (key : Key) → walks_after tables (drain tables key) ≡ tables.walks
-drain_walks tables key = by (nat_eq (engines_in tables.walks key) 0)
+drain_walks tables key = by (nat_eq (engines_in tables.walks key) 0) (waits.InFlight key (engines_in tables.walks key))
   where
-    by : (b : Bool) →
-        walks_after tables (cond b (engines.Changes rows.Drain (effects.drain tables key)) (engines.WaitsFor (waits.InFlight key (engines_in tables.walks key))))
-        ≡ tables.walks
-    by true = refl
-    by false = refl
+    by : (b : Bool) (wait : Wait) →
+        walks_after tables (cond b (engines.Changes rows.Drain (effects.drain tables key)) (engines.WaitsFor wait)) ≡ tables.walks
+    by true wait = refl
+    by false wait = refl
 
 sweep_walks : (tables : TableState) (post : Posted) (swept : List Bool) → walks_after tables (sweep_or_detach tables post swept) ≡ tables.walks
 sweep_walks tables post swept = by (position not swept)

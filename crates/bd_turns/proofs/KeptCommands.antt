@@ -51,24 +51,24 @@ record HasNone (progress : Progress) : Type 0 where
 has_none : (progress : Progress) → outstanding progress ≡ [] → HasNone progress
 has_none progress none = by progress.completed refl progress.hand refl progress.submitted refl
   where
-    no_element : (xs : List ℕ) (x : ℕ) (ys : List ℕ) → xs ++ x ∷ ys ≡ [] → ⊥
-    no_element [] x ys empty = let no : x ∷ ys ≡ [] = empty in cc
-    no_element (z ∷ xs) x ys empty = let no : z ∷ (xs ++ x ∷ ys) ≡ [] = empty in cc
+    with_completed : List Completed → List ℕ
+    with_completed done = map (λ (c : Completed). c.piece) done ++ pieces_in_hand progress.hand ++ progress.submitted
 
     by : (done : List Completed) → progress.completed ≡ done → (hand : Option InHand) → progress.hand ≡ hand →
         (submitted : List ℕ) → progress.submitted ≡ submitted → HasNone progress
     by [] d None h [] s = record { done = d; hand = h; submitted = s }
     by (c ∷ done) d hand h submitted s =
-        let is : outstanding progress ≡ c.piece ∷ _ = ap (λ (x : List Completed). map (λ (y : Completed). y.piece) x ++ pieces_in_hand progress.hand ++ progress.submitted) d in
-        absurd (let no : c.piece ∷ _ ≡ [] = sym is ∙ none in cc)
+        let rest : List ℕ = map (λ (c : Completed). c.piece) done ++ pieces_in_hand progress.hand ++ progress.submitted in
+        let is : outstanding progress ≡ c.piece ∷ rest = ap with_completed d in
+        absurd (let no : c.piece ∷ rest ≡ [] = sym is ∙ none in cc)
     by [] d (Some hand) h submitted s =
         let is : outstanding progress ≡ hand.piece ∷ progress.submitted =
-        ap (λ (x : List Completed). map (λ (y : Completed). y.piece) x ++ pieces_in_hand progress.hand ++ progress.submitted) d
+        ap with_completed d
         ∙ ap (λ (x : Option InHand). pieces_in_hand x ++ progress.submitted) h in
         absurd (let no : hand.piece ∷ progress.submitted ≡ [] = sym is ∙ none in cc)
     by [] d None h (piece ∷ submitted) s =
         let is : outstanding progress ≡ piece ∷ submitted =
-        ap (λ (x : List Completed). map (λ (y : Completed). y.piece) x ++ pieces_in_hand progress.hand ++ progress.submitted) d
+        ap with_completed d
         ∙ ap (λ (x : Option InHand). pieces_in_hand x ++ progress.submitted) h ∙ s in
         absurd (let no : piece ∷ submitted ≡ [] = sym is ∙ none in cc)
 

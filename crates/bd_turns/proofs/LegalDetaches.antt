@@ -31,6 +31,7 @@ use Rattle.bd_turns.proofs.LegalActs.{none_without_pieces, pieces_outstanding, u
 use Rattle.bd_turns.proofs.RunningPlaces.{legal_is_added, runs_at}
 use Rattle.bd_turns.specs.Added.{IsAdded}
 use Rattle.bd_turns.specs.declared.turn.Row.TheVariants as rows
+use Rattle.bd_turns.specs.declared.turn.Wait.{Wait}
 use Rattle.bd_turns.specs.declared.turn.Wait.TheVariants as waits
 use Rattle.bd_turns.specs.Engines as engines
 use Rattle.bd_turns.specs.Engines.{Invalidation, detach, drain, invalidate, invalidation_of, sweep_or_detach}
@@ -53,11 +54,12 @@ pub record IsDetach (tables : TableState) (post : Posted) (e : Entry) : Type 0 w
   pub entry : entries.Detached post.by post.key.process post.key.fd post.key.part ≡ e
 
 drain_ends_none : (tables : TableState) (key : Key) → ended_entry (drain tables key) ≡ None
-drain_ends_none tables key = by (nat_eq (engines_in tables.walks key) 0)
+drain_ends_none tables key = by (nat_eq (engines_in tables.walks key) 0) (waits.InFlight key (engines_in tables.walks key))
   where
-    by : (b : Bool) → ended_entry (cond b (engines.Changes rows.Drain (effects.drain tables key)) (engines.WaitsFor (waits.InFlight key (engines_in tables.walks key)))) ≡ None
-    by true = refl
-    by false = refl
+    by : (b : Bool) (wait : Wait) →
+        ended_entry (cond b (engines.Changes rows.Drain (effects.drain tables key)) (engines.WaitsFor wait)) ≡ None
+    by true wait = refl
+    by false wait = refl
 
 invalidate_ends : (tables : TableState) (post : Posted) (state : RightState) (e : Entry) (after : TableState) →
     invalidate tables post state ≡ Some (engines.Ends e after) →

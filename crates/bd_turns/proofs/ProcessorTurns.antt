@@ -1,5 +1,5 @@
 -- The turns of processors leave the calls sound.
-use Rattle.std.proofs.Common.{◌≡◌, ℕ, ◌+◌, ◌<◌, true, false, ◌||◌, ◌&&◌, List, [], ◌∷◌, ◌++◌, length, Option, None, Some, refl, sym, ap, subst, arith, ⊎_elim}
+use Rattle.std.proofs.Common.{◌≡◌, ℕ, Bool, ◌+◌, ◌<◌, true, false, ◌||◌, ◌&&◌, List, [], ◌∷◌, ◌++◌, length, Option, None, Some, refl, sym, ap, subst, arith, ⊎_elim}
 use Rattle.std.specs.Prelude.{nat_eq, All}
 use Rattle.std.specs.Option.{option_map_or}
 use Rattle.std.specs.List.{list_any}
@@ -119,7 +119,9 @@ adds_sound v m p row e reached is acting added history =
     let leaves : LeavesCalls m p (Some e) progress =
     record {
       commands = no_commands (grown p (Some e)) progress none;
-      for_device = λ goes. subst (All (λ piece. is_for_device m.store p piece ≡ true)) (sym none) (All-nil (λ piece. is_for_device m.store p piece ≡ true));
+      for_device = λ goes.
+          subst (All (λ piece. is_for_device m.store p piece ≡ true)) (sym none)
+          (All-nil (λ piece. is_for_device m.store p piece ≡ true));
       whole = λ x same whole. none;
       held = λ holds key some. with_hold-held p.call row (file_of m.store p) now holds;
       leaves = λ other q key differ runs_m some x same.
@@ -161,7 +163,8 @@ is_fresh : (m : State) (p : Place) (piece : ℕ) → next_action m p ≡ Some (p
 is_fresh m p piece acting =
     let r = running_of m p in
     let submits = next_submits m.store (holder_of m) r piece (processor_submits m p piece acting) in
-    let lowest = find-range_lowest (λ number. is_for_device m.store p number && is_untouched r number) 0 (length (pieces_of_call p.call)) piece submits.found in
+    let test : ℕ → Bool = λ number. is_for_device m.store p number && is_untouched r number in
+    let lowest = find-range_lowest test 0 (length (pieces_of_call p.call)) piece submits.found in
     let both = and_parts (is_for_device m.store p piece) (is_untouched r piece) lowest.passes in
     let held = list_any (nat_eq piece) (outstanding (progress_of m p.at.process)) in
     let touched = not-true (is_answered piece p.before || has_missed piece p.before || held) both.1 in
