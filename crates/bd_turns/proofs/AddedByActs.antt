@@ -1,17 +1,15 @@
 -- What a processor adds an entry for: an act of its call, or the next key that is cleared.
-use Rattle.std.proofs.Common.{◌≡◌, ◌≢◌, ◌⊎◌, inl, inr, ℕ, Bool, true, false, not, ◌&&◌, cond, List, [], ◌∷◌, length, Option, None, Some, refl, sym, ap, ◌∙◌, subst, arith, ⊎_elim}
-use Rattle.std.specs.Prelude.{nat_lt, All}
-use Rattle.std.specs.Option.{option_and_then, option_map, option_or}
-use Rattle.std.proofs.lemmas.Bool.{cases_Bool}
+use Rattle.std.proofs.Common.{◌≡◌, ◌⊎◌, inl, inr, ℕ, Bool, true, false, cond, List, length, Option, None, Some, refl, sym, ap, ◌∙◌, ⊎_elim}
+use Rattle.std.specs.Prelude.{nat_lt}
+use Rattle.std.specs.Option.{option_map}
 use Rattle.std.proofs.lemmas.Option.{none-some, same_Some}
 use Rattle.bd_base.specs.declared.key.Key.{Key}
 use Rattle.bd_base.specs.declared.limits.TheConstants.{POSTS}
-use Rattle.bd_base.specs.declared.script.Call.{Call}
 use Rattle.bd_entry.specs.declared.act.Act.{Act}
 use Rattle.bd_entry.specs.declared.act.Act.TheVariants as acts
 use Rattle.bd_entry.specs.declared.entry.Entry.{Entry}
 use Rattle.bd_entry.specs.declared.entry.Entry.TheVariants as entries
-use Rattle.bd_entry.specs.Actions.{Running, entry_of_act, is_none_of, next_act}
+use Rattle.bd_entry.specs.Actions.{entry_of_act, is_none_of, next_act}
 use Rattle.bd_entry.specs.Calls.{Place}
 use Rattle.bd_entry.proofs.NextActs.{map_from, then_from}
 use Rattle.bd_turns.specs.declared.turn.Row.{Row}
@@ -124,3 +122,63 @@ processor_adds m p row e is =
     (λ adds. inl (record { act = found.0; next = found.1; adds = adds }))
     (λ clears. inr (record { keys = clears.0; next = found.1 ∙ ap Some clears.1; clears = clears.2 }))
     (act_adds m p found.0 row e found.2)
+
+-- ---- what a processor submits
+
+-- the piece that an action submits
+abbrev submitted_piece : Action → Option ℕ
+submitted_piece (processors.Submits piece) = Some piece
+submitted_piece action = None
+
+revocation-submits : (m : State) (p : Place) (keys : List Key) → submitted_piece (revocation m p keys) ≡ None
+revocation-submits m p keys = by (unposted m keys) refl (uncleared m keys) refl
+  where
+    of_post : (b : Bool) (key : Key) → submitted_piece (cond b (processors.Posts key) (processors.WaitsFor (waits.QueueFull POSTS))) ≡ None
+    of_post true key = refl
+    of_post false key = refl
+
+    by : (u : Option Key) → unposted m keys ≡ u → (c : Option Key) → uncleared m keys ≡ c → submitted_piece (revocation m p keys) ≡ None
+    by (Some key) first c next =
+        ap submitted_piece (revocation-posts m p keys key first) ∙ of_post (nat_lt (length m.posted) POSTS) key
+    by None first None next = rw first (rw next refl)
+    by None first (Some key) next = ap submitted_piece (revocation-clears m p keys key first next)
+
+poll-submits : (m : State) (p : Place) → submitted_piece (poll (progress_of m p.at.process)) ≡ None
+poll-submits m p =
+    by (is_none_of (progress_of m p.at.process).completed)
+    (waits.Completion (least_outstanding (outstanding (progress_of m p.at.process))))
+  where
+    by : (b : Bool) (wait : Wait) → submitted_piece (cond b (processors.WaitsFor wait) processors.Polls) ≡ None
+    by true wait = refl
+    by false wait = refl
+
+act_submits : (m : State) (p : Place) (act : Act) (piece : ℕ) → action_for m p act ≡ Some (processors.Submits piece) →
+    act ≡ acts.Submit piece
+act_submits m p (acts.Busy file holder) piece is =
+    absurd (none-some piece (ap submitted_piece (same_Some (processors.WaitsFor (waits.Busy file holder)) (processors.Submits piece) is)))
+act_submits m p (acts.Revoke keys) piece is =
+    absurd
+    (none-some piece
+    (sym (revocation-submits m p keys) ∙ ap submitted_piece (same_Some (revocation m p keys) (processors.Submits piece) is)))
+act_submits m p (acts.Submit number) piece is =
+    ap acts.Submit
+    (same_Some number piece (ap submitted_piece (same_Some (processors.Submits number) (processors.Submits piece) is)))
+act_submits m p acts.Poll piece is =
+    absurd
+    (none-some piece
+    (sym (poll-submits m p)
+    ∙ ap submitted_piece (same_Some (poll (progress_of m p.at.process)) (processors.Submits piece) is)))
+act_submits m p act piece is = absurd (of_added (entry_of_act m.store p act) is)
+  where
+    of_added : (o : Option Entry) →
+        option_map (λ entry. processors.Adds (row_of_entry entry) entry) o ≡ Some (processors.Submits piece) → ⊥
+    of_added o is =
+        let found = map_from (λ entry. processors.Adds (row_of_entry entry) entry) o (processors.Submits piece) is in
+        none-some piece (ap submitted_piece found.2)
+
+-- a processor submits what the next act of its call does
+pub processor_submits : (m : State) (p : Place) (piece : ℕ) → next_action m p ≡ Some (processors.Submits piece) →
+    next_act m.store (holder_of m) (running_of m p) ≡ Some (acts.Submit piece)
+processor_submits m p piece is =
+    let found = then_from (action_for m p) (next_act m.store (holder_of m) (running_of m p)) (processors.Submits piece) is in
+    found.1 ∙ ap Some (act_submits m p found.0 piece found.2)

@@ -1,6 +1,6 @@
 -- No call closes a descriptor of a file that another process holds.
-use Rattle.std.proofs.Common.{◌≡◌, ◌≢◌, ℕ, zero, suc, Bool, true, false, ◌||◌, cond, List, [], ◌∷◌, ◌++◌, Option, None, Some, refl, sym, ap, ◌∙◌, subst, ⊎_elim}
-use Rattle.std.specs.Prelude.{nat_eq, position, slice_index_or, IsSome}
+use Rattle.std.proofs.Common.{◌≡◌, ◌≢◌, ℕ, zero, suc, Bool, true, false, cond, List, [], ◌∷◌, Option, None, Some, refl, sym, ap, ◌∙◌, subst, ⊎_elim}
+use Rattle.std.specs.Prelude.{nat_eq, slice_index_or}
 use Rattle.std.specs.Option.{option_and_then, option_map, option_map_or, option_or}
 use Rattle.std.specs.List.{list_any}
 use Rattle.std.proofs.lemmas.Bool.{both_ways, cases_Bool, cond-false, eq-eqb, eqb-true, false≢true, or_left, or_right}
@@ -10,7 +10,7 @@ use Rattle.bd_base.specs.declared.journal.At.{At}
 use Rattle.bd_base.specs.declared.key.Key.{Key}
 use Rattle.bd_base.specs.declared.reason.Reason.{Reason}
 use Rattle.bd_base.specs.declared.script.Call.{Call}
-use Rattle.bd_base.specs.declared.script.Call.TheVariants.{Enter, Create, Read, Write, Truncate, Unlink, Size, Map, Close, RawRead, RawWrite}
+use Rattle.bd_base.specs.declared.script.Call.TheVariants.{Enter, Close}
 use Rattle.bd_base.specs.declared.script.How.TheVariants as hows
 use Rattle.bd_base.specs.declared.volume.Volume.{Volume}
 use Rattle.bd_entry.specs.declared.act.Act.{Act}
@@ -18,7 +18,7 @@ use Rattle.bd_entry.specs.declared.act.Act.TheVariants as acts
 use Rattle.bd_entry.specs.declared.entry.Entry.{Entry}
 use Rattle.bd_entry.specs.declared.entry.Entry.TheVariants.{Cleared, Closed}
 use Rattle.bd_entry.specs.Actions.{Holders, before_beginning, busy, busy_at_first, comes_before_holder, entry_of_act, tests_for_holder, wait_for}
-use Rattle.bd_entry.specs.Calls.{Place, at_of, fd_of, is_made_by}
+use Rattle.bd_entry.specs.Calls.{Place, at_of, is_made_by}
 use Rattle.bd_entry.specs.Promises.{is_whole_refusal}
 use Rattle.bd_entry.specs.Refusals.{descriptor_of, file_of, file_of_call, first_refusal}
 use Rattle.bd_entry.specs.Rules.{place_in}
@@ -40,7 +40,7 @@ use Rattle.bd_turns.specs.Processors as processors
 use Rattle.bd_turns.specs.Processors.{next_action, running_of}
 use Rattle.bd_turns.specs.Reached.{IsReached}
 use Rattle.bd_turns.specs.Sound.{IsHeldOnce, is_clear_at}
-use Rattle.bd_turns.specs.State.{Progress, State, does_hold, holder_of, new_progress, outstanding, progress_of, running}
+use Rattle.bd_turns.specs.State.{State, does_hold, holder_of, new_progress, outstanding, progress_of, running}
 use Rattle.bd_turns.specs.Turns.{holds_throughout}
 
 -- ---- holders

@@ -1,19 +1,15 @@
 -- The commands of a call after a submission, a poll, and each turn of its device engine.
-use Rattle.std.proofs.Common.{◌≡◌, ◌≢◌, ℕ, zero, suc, ◌+◌, ◌<◌, ◌≤◌, Bool, true, false, ◌||◌, cond, List, [], ◌∷◌, ◌++◌, map, drop, length, Option, None, Some, refl, sym, ap, ◌∙◌, subst, arith, ⊎_elim}
+use Rattle.std.proofs.Common.{◌≡◌, ℕ, ◌+◌, ◌<◌, ◌≤◌, Bool, false, List, [], ◌∷◌, ◌++◌, map, drop, length, refl, ap, ◌∙◌, arith, ⊎_elim}
 use Rattle.std.specs.Prelude.{nat_eq, All, count_by}
 use Rattle.std.specs.List.{list_any}
-use Rattle.std.proofs.lemmas.Bool.{cases_Bool, cases_eq, eq-eqb, false≢true, or_from, or_left, or_parts, or_right}
-use Rattle.std.proofs.lemmas.List.Elements.{All-append, All-cons, All-drop, All-head, All-nil, All-push, All-tail, All-weaker}
-use Rattle.std.proofs.lemmas.List.Folds.{list_any-append}
+use Rattle.std.proofs.lemmas.Bool.{cases_Bool, cases_eq, or_parts}
+use Rattle.std.proofs.lemmas.List.Elements.{All-append, All-cons, All-drop, All-head, All-nil, All-push, All-tail}
 use Rattle.std.proofs.lemmas.List.Sums.{sum_by-append, sum_by-cons}
-use Rattle.std.proofs.lemmas.Option.{none-some, same_Some}
-use Rattle.bd_base.proofs.Counts.{count_by-push, one_if, one_if-le, one_if-other, one_if-same}
-use Rattle.bd_entry.specs.declared.entry.Entry.{Entry}
-use Rattle.bd_entry.specs.Calls.{Place, has_missed, is_answer_of, is_answered, is_miss_of, pieces_of_call}
-use Rattle.bd_turns.proofs.DoneTurns.{grown}
+use Rattle.bd_base.proofs.Counts.{count_by-push, one_if, one_if-le, one_if-other}
+use Rattle.bd_entry.specs.Calls.{Place, pieces_of_call}
 use Rattle.bd_turns.proofs.KeptCommands.{TellsNone, TellsOf}
-use Rattle.bd_turns.specs.Sound.{AreCommands, has_told, is_told}
-use Rattle.bd_turns.specs.State.{Completed, InHand, Retiring, Completing, Phase, Progress, outstanding, pieces_in_hand}
+use Rattle.bd_turns.specs.Sound.{AreCommands, is_told}
+use Rattle.bd_turns.specs.State.{Completed, Progress, outstanding, pieces_in_hand}
 
 -- ---- lists in parts
 
@@ -155,6 +151,10 @@ polled_commands q progress are = record {
 
     differ : (piece : ℕ) → count_by (nat_eq piece) (outstanding (polled progress)) ≤ 1
     differ piece =
-        omega
-        (count_outstanding (nat_eq piece) (polled progress), count_outstanding (nat_eq piece) progress,
-        fewer (nat_eq piece) progress.completed, are.differ piece, arith)
+        omega (
+          count_outstanding (nat_eq piece) (polled progress),
+          count_outstanding (nat_eq piece) progress,
+          fewer (nat_eq piece) progress.completed,
+          are.differ piece,
+          arith,
+        )

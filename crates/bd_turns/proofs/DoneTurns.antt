@@ -1,9 +1,9 @@
 -- The state after an effective turn in the name of a call: how far each process is, and which calls run.
-use Rattle.std.proofs.Common.{◌≡◌, ◌≢◌, ℕ, ◌+◌, ◌<◌, ◌≤◌, Bool, true, false, ◌&&◌, cond, List, [], ◌∷◌, ◌++◌, length, Option, None, Some, refl, sym, ap, ◌∙◌, subst, arith, ⊎_elim}
-use Rattle.std.specs.Prelude.{nat_eq, slice_get, slice_index_or, slice_set}
+use Rattle.std.proofs.Common.{◌≡◌, ◌≢◌, ℕ, ◌+◌, ◌<◌, true, false, cond, List, [], ◌∷◌, ◌++◌, length, Option, None, Some, refl, sym, ap, ◌∙◌, subst, arith, ⊎_elim}
+use Rattle.std.specs.Prelude.{nat_eq}
 use Rattle.std.specs.Option.{option_map, option_to_list}
 use Rattle.std.proofs.lemmas.Bool.{and_right, cases_Bool, cases_eq, cond-false, cond-true, ne_eqb}
-use Rattle.std.proofs.lemmas.List.{append-nil, get_or-set_other, get_or-set_same, length-set}
+use Rattle.std.proofs.lemmas.List.{append-nil, get_or-set_other, get_or-set_same}
 use Rattle.std.proofs.lemmas.Option.{none-some, same_Some}
 use Rattle.bd_base.specs.declared.journal.At.{At}
 use Rattle.bd_base.specs.declared.script.Call.{Call}
@@ -11,7 +11,7 @@ use Rattle.bd_base.specs.declared.script.Script.{Script}
 use Rattle.bd_base.specs.declared.volume.Volume.{Volume}
 use Rattle.bd_entry.specs.declared.entry.Entry.{Entry}
 use Rattle.bd_entry.specs.Calls.{Place, at_of, call_at, entries_of, same_call}
-use Rattle.bd_entry.proofs.CallOrder.{entries_of-joined, entries_of-other, numbered, other_process, same_at, same_self}
+use Rattle.bd_entry.proofs.CallOrder.{entries_of-joined, entries_of-other, numbered, other_process, same_self}
 use Rattle.bd_entry.proofs.HistoryLaws.{process_there}
 use Rattle.bd_entry.proofs.NextActs.{map_from}
 use Rattle.bd_turns.proofs.Cases.{running_process}
@@ -19,7 +19,7 @@ use Rattle.bd_turns.proofs.RunningPlaces.{RunsAt, runs_at}
 use Rattle.bd_turns.specs.Added.{IsAdded}
 use Rattle.bd_turns.specs.Sound.{AreCallsSound}
 use Rattle.bd_turns.specs.State.{Progress, State, has_ended, new_progress, place_of, progress_of, running, running_at, with_progress}
-use Rattle.bd_turns.specs.Turns.{after_effect, process_count, with_call_ended, with_entry_if_any, with_turn_used}
+use Rattle.bd_turns.specs.Turns.{after_effect, with_call_ended, with_entry_if_any, with_turn_used}
 
 -- ---- progress
 

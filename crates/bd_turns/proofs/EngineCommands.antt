@@ -1,21 +1,20 @@
 -- The commands of a call after each turn of its device engine.
-use Rattle.std.proofs.Common.{◌≡◌, ◌≢◌, ℕ, zero, suc, ◌+◌, ◌<◌, ◌≤◌, Bool, true, false, ◌||◌, List, [], ◌∷◌, ◌++◌, map, length, Option, None, Some, refl, sym, ap, ◌∙◌, subst, arith, ⊎_elim}
+use Rattle.std.proofs.Common.{◌≡◌, ℕ, ◌+◌, ◌<◌, ◌≤◌, Bool, true, false, ◌||◌, List, [], ◌∷◌, ◌++◌, length, Option, None, Some, refl, sym, ap, ◌∙◌, subst, arith, ⊎_elim}
 use Rattle.std.specs.Prelude.{nat_eq, All, count_by}
 use Rattle.std.specs.List.{list_any}
-use Rattle.std.proofs.lemmas.Bool.{cases_Bool, eq-eqb, false≢true, or_cases, or_from, or_left, or_right}
+use Rattle.std.proofs.lemmas.Bool.{or_cases, or_left, or_right}
 use Rattle.std.proofs.lemmas.List.{map-append}
 use Rattle.std.proofs.lemmas.List.Elements.{All-append, All-cons, All-head, All-nil, All-push, All-tail, All-weaker}
 use Rattle.std.proofs.lemmas.List.Folds.{list_any-append}
-use Rattle.std.proofs.lemmas.List.Sums.{sum_by-append}
 use Rattle.std.proofs.lemmas.Option.{none-some, same_Some}
 use Rattle.bd_base.proofs.Counts.{count_by-push, one_if, one_if-same}
 use Rattle.bd_entry.specs.declared.entry.Entry.{Entry}
 use Rattle.bd_entry.specs.Calls.{Place, has_missed, is_answer_of, is_answered, is_miss_of, pieces_of_call}
-use Rattle.bd_turns.proofs.CommandSteps.{All-unmap, EachPart, all_parts, completed_pieces, count-cons, count_outstanding, each_part, none-count}
+use Rattle.bd_turns.proofs.CommandSteps.{All-unmap, all_parts, completed_pieces, count-cons, count_outstanding, each_part, none-count}
 use Rattle.bd_turns.proofs.DoneTurns.{grown}
 use Rattle.bd_turns.proofs.KeptCommands.{TellsNone, TellsOf}
 use Rattle.bd_turns.specs.Sound.{AreCommands, has_told, is_told}
-use Rattle.bd_turns.specs.State.{Completed, InHand, Looking, Reading, Filling, Moving, Missing, Retiring, Completing, Phase, Progress, outstanding, pieces_in_hand}
+use Rattle.bd_turns.specs.State.{Completed, InHand, Retiring, Completing, Phase, Progress, outstanding, pieces_in_hand}
 
 -- a piece in a hand
 abbrev pub hand_of : ℕ → Phase → InHand
@@ -60,9 +59,15 @@ module _ (q : Place) (progress : Progress) (number : ℕ) (rest : List ℕ) (pha
           let list : count_by test progress.submitted ≡ one_if (test number) + count_by test rest =
           ap (count_by test) submitted ∙ count-cons test number rest in
           let one : count_by test (number ∷ []) ≡ one_if (test number) + 0 = count-cons test number [] in
-          omega
-          (count_outstanding test progress, count_outstanding test (taken progress number rest phase), none, list, one,
-          are.differ piece, arith)
+          omega (
+            count_outstanding test progress,
+            count_outstanding test (taken progress number rest phase),
+            none,
+            list,
+            one,
+            are.differ piece,
+            arith,
+          )
 
 -- ---- the engine goes on with the command in its hand
 

@@ -1,23 +1,22 @@
 -- What a turn of a device engine does with the commands of its process.
-use Rattle.std.proofs.Common.{◌≡◌, ℕ, Bool, true, false, ◌||◌, List, [], ◌∷◌, ◌++◌, length, Option, None, Some, refl, sym, ap, ◌∙◌, subst}
+use Rattle.std.proofs.Common.{◌≡◌, ℕ, true, false, List, [], ◌∷◌, length, Option, None, Some, refl, sym, ap, ◌∙◌, subst}
 use Rattle.std.specs.Prelude.{nat_eq, All}
 use Rattle.std.specs.Option.{option_map}
 use Rattle.std.specs.FinMap as fin
-use Rattle.std.proofs.lemmas.Bool.{eq-eqb, false≢true, or_left, or_right}
+use Rattle.std.proofs.lemmas.Bool.{eq-eqb, or_left}
 use Rattle.std.proofs.lemmas.List.{append-nil, length-set}
 use Rattle.std.proofs.lemmas.Option.{none-some, same_Some}
 use Rattle.bd_base.specs.declared.journal.Found.{Found}
 use Rattle.bd_base.specs.declared.key.Cell.{Cell}
 use Rattle.bd_entry.specs.declared.entry.Entry.{Entry}
 use Rattle.bd_entry.specs.declared.entry.Entry.TheVariants as entries
-use Rattle.bd_entry.specs.Calls.{Place, is_answer_of, is_miss_of}
+use Rattle.bd_entry.specs.Calls.{Place}
 use Rattle.bd_entry.specs.Promises.{is_access_or_miss}
 use Rattle.bd_entry.specs.Store.{Store}
 use Rattle.bd_entry.proofs.NextActs.{map_from, then_from}
 use Rattle.bd_lines.specs.Lines.{hit}
 use Rattle.bd_tables.specs.declared.request.Request.{Request}
-use Rattle.bd_tables.specs.Effects as effects
-use Rattle.bd_tables.specs.State.{TableState, found_entering, found_of, found_reading, lookup, told_of, walk_at}
+use Rattle.bd_tables.specs.State.{found_entering, found_of, found_reading, lookup, told_of, walk_at}
 use Rattle.bd_turns.proofs.DoneTurns.{grown}
 use Rattle.bd_turns.proofs.EngineCommands.{TellsAlone, given_all, given_back, given_commands, hand_of, phase_all, phase_commands, taken, taken_all, taken_commands, told_commands, with_phase}
 use Rattle.bd_turns.proofs.LegalMoves.{moves_by}

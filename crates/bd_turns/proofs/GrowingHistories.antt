@@ -1,5 +1,5 @@
 -- Turns keep the journal a history.
-use Rattle.std.proofs.Common.{◌≡◌, ℕ, List, [], ◌∷◌, ◌++◌, Option, None, Some, refl, sym, subst}
+use Rattle.std.proofs.Common.{◌≡◌, [], ◌∷◌, ◌++◌, Option, None, Some, refl, sym, subst}
 use Rattle.bd_base.specs.declared.journal.At.{At}
 use Rattle.bd_base.specs.declared.volume.Volume.{Volume}
 use Rattle.bd_entry.specs.declared.entry.Entry.{Entry}
@@ -9,9 +9,9 @@ use Rattle.bd_entry.specs.Laws.{IsHistory}
 use Rattle.bd_entry.specs.Rules.{place_in}
 use Rattle.bd_entry.proofs.Histories.{history-push}
 use Rattle.bd_turns.proofs.Cases.{Effective, Leads, turn_leads}
-use Rattle.bd_turns.specs.Added.{AddsAt, by_engine, by_invalidation, by_processor, EntriesAreNext, IsAdded}
+use Rattle.bd_turns.specs.Added.{by_engine, by_invalidation, by_processor, EntriesAreNext, IsAdded}
 use Rattle.bd_turns.specs.Engines.{Step}
-use Rattle.bd_turns.specs.Reached.{IsReached, TurnsKeepHistory}
+use Rattle.bd_turns.specs.Reached.{TurnsKeepHistory}
 use Rattle.bd_turns.specs.State.{State}
 use Rattle.bd_turns.specs.Turns.{after_step, after_turn, with_entry}
 

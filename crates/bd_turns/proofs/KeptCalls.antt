@@ -1,19 +1,18 @@
 -- What a turn leaves of the calls: they come one after the other, and none runs on that has ended.
-use Rattle.std.proofs.Common.{◌≡◌, ◌≢◌, ℕ, ◌+◌, ◌<◌, ◌≤◌, Bool, true, false, ◌&&◌, ◌||◌, cond, List, [], ◌∷◌, ◌++◌, length, Option, None, Some, refl, sym, ap, ◌∙◌, subst, arith, ⊎_elim}
-use Rattle.std.specs.Prelude.{nat_eq, slice_get, All}
+use Rattle.std.proofs.Common.{◌≡◌, ℕ, ◌+◌, ◌<◌, ◌≤◌, Bool, true, false, ◌&&◌, cond, List, [], ◌∷◌, ◌++◌, length, Option, None, Some, refl, sym, ap, ◌∙◌, subst, arith, ⊎_elim}
 use Rattle.std.specs.Option.{option_to_list}
 use Rattle.std.specs.List.{list_any}
-use Rattle.std.proofs.lemmas.Bool.{and_left, and_parts, both_ways, cases_Bool, cases_eq, cond-false, cond-true, eqb-true, false_from_ne_true, false≢true, or_from, or_parts}
+use Rattle.std.proofs.lemmas.Bool.{and_left, and_parts, both_ways, cases_Bool, cases_eq, cond-false, cond-true, false_from_ne_true, false≢true, or_from}
 use Rattle.std.proofs.lemmas.List.{length-set}
 use Rattle.std.proofs.lemmas.List.Folds.{list_any-append}
-use Rattle.std.proofs.lemmas.Option.{none-some, same_Some, slice_get_within}
+use Rattle.std.proofs.lemmas.Option.{slice_get_within}
 use Rattle.bd_base.specs.declared.journal.At.{At}
 use Rattle.bd_base.specs.declared.script.Call.{Call}
 use Rattle.bd_base.specs.declared.script.Script.{Script}
 use Rattle.bd_base.specs.declared.volume.Volume.{Volume}
 use Rattle.bd_entry.specs.declared.entry.Entry.{Entry}
 use Rattle.bd_entry.specs.Actions.{is_none_of}
-use Rattle.bd_entry.specs.Calls.{Place, at_of, call_at, calls_of, entries_of, is_ended_by, is_finished, same_call}
+use Rattle.bd_entry.specs.Calls.{Place, calls_of, entries_of, is_ended_by, is_finished, same_call}
 use Rattle.bd_entry.specs.Promises.{is_whole_refusal}
 use Rattle.bd_entry.specs.Rules.{NextCall}
 use Rattle.bd_entry.proofs.CallOrder.{is_finished-called, numbered, same_at, stays_finished}
@@ -23,8 +22,8 @@ use Rattle.bd_turns.proofs.RunningPlaces.{RunsAt, runs_at}
 use Rattle.bd_turns.proofs.StayingDescriptors.{ended_by_end, none_unended, whole_ends}
 use Rattle.bd_turns.specs.Added.{IsAdded}
 use Rattle.bd_turns.specs.Sound.{AreCallsSound, AreInTurn, AreUnended, AreUnrefused, HasProcesses}
-use Rattle.bd_turns.specs.State.{Progress, State, has_ended, outstanding, progress_of, running}
-use Rattle.bd_turns.specs.Turns.{after_effect, process_count, with_call_ended, with_entry_if_any, with_turn_used}
+use Rattle.bd_turns.specs.State.{Progress, State, has_ended, outstanding, progress_of}
+use Rattle.bd_turns.specs.Turns.{after_effect, with_call_ended, with_entry_if_any, with_turn_used}
 
 -- a list that is none has no element
 none_of-is : {X : Type 0} (xs : List X) → is_none_of xs ≡ true → xs ≡ []

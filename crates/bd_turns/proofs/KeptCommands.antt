@@ -1,5 +1,5 @@
 -- What a turn leaves of commands and of cleared rights.
-use Rattle.std.proofs.Common.{◌≡◌, ◌≢◌, ◌⊎◌, ℕ, ◌+◌, ◌<◌, ◌≤◌, Bool, true, false, ◌&&◌, ◌||◌, cond, List, [], ◌∷◌, ◌++◌, map, length, Option, None, Some, refl, sym, ap, ◌∙◌, subst, arith, ⊎_elim}
+use Rattle.std.proofs.Common.{◌≡◌, ◌≢◌, ℕ, ◌<◌, ◌≤◌, true, false, List, [], ◌∷◌, ◌++◌, map, length, Option, None, Some, refl, sym, ap, ◌∙◌, subst, arith, ⊎_elim}
 use Rattle.std.specs.Prelude.{nat_eq, All, count_by}
 use Rattle.std.specs.Option.{option_to_list}
 use Rattle.std.specs.List.{list_any}
@@ -10,18 +10,17 @@ use Rattle.std.proofs.lemmas.List.Folds.{list_any-append}
 use Rattle.std.proofs.lemmas.Option.{none-some, same_Some}
 use Rattle.bd_base.specs.declared.journal.At.{At}
 use Rattle.bd_base.specs.declared.key.Key.{Key}
-use Rattle.bd_base.specs.declared.script.Call.{Call}
 use Rattle.bd_base.specs.declared.script.Script.{Script}
 use Rattle.bd_base.specs.declared.volume.Volume.{Volume}
 use Rattle.bd_base.specs.Keys.{same_key-is}
 use Rattle.bd_entry.specs.declared.entry.Entry.{Entry}
-use Rattle.bd_entry.specs.declared.entry.Entry.TheVariants.{Cleared, Closed}
-use Rattle.bd_entry.specs.Actions.{is_for_device, is_none_of}
-use Rattle.bd_entry.specs.Calls.{Place, at_of, call_at, entries_of, has_missed, is_ended_by, pieces_of_call}
+use Rattle.bd_entry.specs.declared.entry.Entry.TheVariants.{Cleared}
+use Rattle.bd_entry.specs.Actions.{is_for_device}
+use Rattle.bd_entry.specs.Calls.{Place, at_of, call_at, has_missed, is_ended_by, pieces_of_call}
 use Rattle.bd_entry.specs.Effects.{effect_of}
 use Rattle.bd_entry.specs.Laws.{AreOfCall, IsHistory}
 use Rattle.bd_entry.specs.Refusals.{file_of}
-use Rattle.bd_entry.specs.Rules.{FitsStore, IsOpen, RightFile, place_in}
+use Rattle.bd_entry.specs.Rules.{IsOpen, RightFile, place_in}
 use Rattle.bd_entry.specs.RulesOfRights.{HasRightFile, TheDescriptor}
 use Rattle.bd_entry.specs.Store.{Descriptor, Store, descriptor_at, work_of}
 use Rattle.bd_entry.proofs.Accesses.{of_call-in_store}
@@ -33,13 +32,13 @@ use Rattle.bd_turns.proofs.ClearingCalls.{clears_key}
 use Rattle.bd_turns.proofs.DoneTurns.{IsDone, NoneRunsAfter, RunsAfter, grown, none_runs_after, own_entries, runs_after}
 use Rattle.bd_turns.proofs.KeptCalls.{ended_parts, unended_by_entries}
 use Rattle.bd_turns.proofs.LegalActs.{none_without_pieces}
-use Rattle.bd_turns.proofs.RunningPlaces.{RunsAt, runs_at}
+use Rattle.bd_turns.proofs.RunningPlaces.{runs_at}
 use Rattle.bd_turns.proofs.StayingDescriptors.{LeavesOpen, closes_end, ended_by_end, file_stays, for_device-later, for_device-stays}
 use Rattle.bd_turns.specs.Added.{IsAdded}
 use Rattle.bd_turns.specs.Reached.{IsReached}
 use Rattle.bd_turns.specs.Sound.{AreClearsHeld, AreCommands, AreCommandsOfCalls, AreForDevice, is_clear_at, is_told}
 use Rattle.bd_turns.specs.State.{Completed, InHand, Progress, State, has_ended, outstanding, pieces_in_hand, progress_of, running}
-use Rattle.bd_turns.specs.Turns.{after_effect, holds_throughout, with_call_ended, with_entry, with_entry_if_any, with_turn_used}
+use Rattle.bd_turns.specs.Turns.{after_effect, holds_throughout, with_entry, with_entry_if_any, with_turn_used}
 
 -- ---- commands
 
@@ -52,24 +51,24 @@ record HasNone (progress : Progress) : Type 0 where
 has_none : (progress : Progress) → outstanding progress ≡ [] → HasNone progress
 has_none progress none = by progress.completed refl progress.hand refl progress.submitted refl
   where
-    no_element : (xs : List ℕ) (x : ℕ) (ys : List ℕ) → xs ++ x ∷ ys ≡ [] → ⊥
-    no_element [] x ys empty = let no : x ∷ ys ≡ [] = empty in cc
-    no_element (z ∷ xs) x ys empty = let no : z ∷ (xs ++ x ∷ ys) ≡ [] = empty in cc
+    with_completed : List Completed → List ℕ
+    with_completed done = map (λ (c : Completed). c.piece) done ++ pieces_in_hand progress.hand ++ progress.submitted
 
     by : (done : List Completed) → progress.completed ≡ done → (hand : Option InHand) → progress.hand ≡ hand →
         (submitted : List ℕ) → progress.submitted ≡ submitted → HasNone progress
     by [] d None h [] s = record { done = d; hand = h; submitted = s }
     by (c ∷ done) d hand h submitted s =
-        let is : outstanding progress ≡ c.piece ∷ _ = ap (λ (x : List Completed). map (λ (y : Completed). y.piece) x ++ pieces_in_hand progress.hand ++ progress.submitted) d in
-        absurd (let no : c.piece ∷ _ ≡ [] = sym is ∙ none in cc)
+        let rest : List ℕ = map (λ (c : Completed). c.piece) done ++ pieces_in_hand progress.hand ++ progress.submitted in
+        let is : outstanding progress ≡ c.piece ∷ rest = ap with_completed d in
+        absurd (let no : c.piece ∷ rest ≡ [] = sym is ∙ none in cc)
     by [] d (Some hand) h submitted s =
         let is : outstanding progress ≡ hand.piece ∷ progress.submitted =
-        ap (λ (x : List Completed). map (λ (y : Completed). y.piece) x ++ pieces_in_hand progress.hand ++ progress.submitted) d
+        ap with_completed d
         ∙ ap (λ (x : Option InHand). pieces_in_hand x ++ progress.submitted) h in
         absurd (let no : hand.piece ∷ progress.submitted ≡ [] = sym is ∙ none in cc)
     by [] d None h (piece ∷ submitted) s =
         let is : outstanding progress ≡ piece ∷ submitted =
-        ap (λ (x : List Completed). map (λ (y : Completed). y.piece) x ++ pieces_in_hand progress.hand ++ progress.submitted) d
+        ap with_completed d
         ∙ ap (λ (x : Option InHand). pieces_in_hand x ++ progress.submitted) h ∙ s in
         absurd (let no : piece ∷ submitted ≡ [] = sym is ∙ none in cc)
 

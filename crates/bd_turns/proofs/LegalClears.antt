@@ -1,15 +1,13 @@
 -- The rights that processors clear for their calls may be cleared there.
-use Rattle.std.proofs.Common.{◌≡◌, ℕ, Bool, true, false, List, [], Option, None, Some, refl, sym, ap, ◌∙◌, subst}
-use Rattle.std.specs.Prelude.{nat_eq, All}
+use Rattle.std.proofs.Common.{◌≡◌, true, false, [], Option, None, Some, refl, sym, ◌∙◌, subst}
+use Rattle.std.specs.Prelude.{All}
 use Rattle.std.specs.FinMap as fin
 use Rattle.std.proofs.lemmas.Bool.{false≢true}
-use Rattle.std.proofs.lemmas.Option.{none-some, same_Some}
+use Rattle.std.proofs.lemmas.Option.{same_Some}
 use Rattle.bd_base.specs.declared.key.Key.{Key}
 use Rattle.bd_base.specs.declared.volume.Volume.{Volume}
-use Rattle.bd_entry.specs.declared.act.Act.TheVariants as acts
 use Rattle.bd_entry.specs.declared.entry.Entry.{Entry}
 use Rattle.bd_entry.specs.declared.entry.Entry.TheVariants as entries
-use Rattle.bd_entry.specs.Actions.{keys_to_revoke}
 use Rattle.bd_entry.specs.Calls.{Place}
 use Rattle.bd_entry.specs.NextEntries.{IsLegalAt}
 use Rattle.bd_entry.specs.Rules.{EntryRule, FitsStore, IsOpen, NotRefused, RightFile, Rights}
@@ -27,7 +25,7 @@ use Rattle.bd_turns.proofs.LegalActs.{none_without_pieces, pieces_outstanding, u
 use Rattle.bd_turns.proofs.NextRevocations.{next_revokes}
 use Rattle.bd_turns.proofs.RunningPlaces.{legal_is_added}
 use Rattle.bd_turns.specs.Added.{IsAdded}
-use Rattle.bd_turns.specs.Processors.{is_on, is_on_state, running_of, uncleared}
+use Rattle.bd_turns.specs.Processors.{is_on, is_on_state, running_of}
 use Rattle.bd_turns.specs.Reached.{IsReached}
 use Rattle.bd_turns.specs.Sound.{AreRightsOf, is_revoked}
 use Rattle.bd_turns.specs.State.{State, holder_of, outstanding, progress_of, running}

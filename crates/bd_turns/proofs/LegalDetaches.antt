@@ -1,23 +1,21 @@
 -- The rights that the invalidation engine takes away may be taken away there.
 use Rattle.std.proofs.Common.{◌≡◌, ◌≢◌, ℕ, Bool, true, false, not, cond, List, [], ◌∷◌, Option, None, Some, refl, sym, ap, ◌∙◌, subst}
-use Rattle.std.specs.Prelude.{nat_eq, position, slice_get, All}
-use Rattle.std.specs.Option.{option_and_then, option_map, option_map_or}
+use Rattle.std.specs.Prelude.{nat_eq, position, slice_get}
+use Rattle.std.specs.Option.{option_map, option_map_or}
 use Rattle.std.specs.List.{list_any}
 use Rattle.std.specs.FinMap as fin
 use Rattle.std.proofs.lemmas.Bool.{false≢true}
 use Rattle.std.proofs.lemmas.Option.{none-some, same_Some}
 use Rattle.bd_base.specs.declared.journal.At.{At}
 use Rattle.bd_base.specs.declared.key.Key.{Key}
-use Rattle.bd_base.specs.declared.script.Call.{Call}
 use Rattle.bd_base.specs.declared.volume.Volume.{Volume}
 use Rattle.bd_entry.specs.declared.entry.Entry.{Entry}
 use Rattle.bd_entry.specs.declared.entry.Entry.TheVariants as entries
-use Rattle.bd_entry.specs.Calls.{Place, call_at, entries_of, has_cleared}
+use Rattle.bd_entry.specs.Calls.{Place, call_at, has_cleared}
 use Rattle.bd_entry.specs.Laws.{AreOfCall}
 use Rattle.bd_entry.specs.NextEntries.{IsLegalAt}
 use Rattle.bd_entry.specs.Refusals.{file_of}
 use Rattle.bd_entry.specs.Rules.{EntryRule, FitsStore, IsOpen, NotRefused, RightFile, Rights}
-use Rattle.bd_entry.specs.RulesOfContents.{MayBegin}
 use Rattle.bd_entry.specs.Store.{Descriptor, Store, descriptor_at, has_part}
 use Rattle.bd_entry.proofs.CallOrder.{start_of}
 use Rattle.bd_entry.proofs.HistoryLaws.{history_leads}
@@ -33,6 +31,7 @@ use Rattle.bd_turns.proofs.LegalActs.{none_without_pieces, pieces_outstanding, u
 use Rattle.bd_turns.proofs.RunningPlaces.{legal_is_added, runs_at}
 use Rattle.bd_turns.specs.Added.{IsAdded}
 use Rattle.bd_turns.specs.declared.turn.Row.TheVariants as rows
+use Rattle.bd_turns.specs.declared.turn.Wait.{Wait}
 use Rattle.bd_turns.specs.declared.turn.Wait.TheVariants as waits
 use Rattle.bd_turns.specs.Engines as engines
 use Rattle.bd_turns.specs.Engines.{Invalidation, detach, drain, invalidate, invalidation_of, sweep_or_detach}
@@ -55,11 +54,12 @@ pub record IsDetach (tables : TableState) (post : Posted) (e : Entry) : Type 0 w
   pub entry : entries.Detached post.by post.key.process post.key.fd post.key.part ≡ e
 
 drain_ends_none : (tables : TableState) (key : Key) → ended_entry (drain tables key) ≡ None
-drain_ends_none tables key = by (nat_eq (engines_in tables.walks key) 0)
+drain_ends_none tables key = by (nat_eq (engines_in tables.walks key) 0) (waits.InFlight key (engines_in tables.walks key))
   where
-    by : (b : Bool) → ended_entry (cond b (engines.Changes rows.Drain (effects.drain tables key)) (engines.WaitsFor (waits.InFlight key (engines_in tables.walks key)))) ≡ None
-    by true = refl
-    by false = refl
+    by : (b : Bool) (wait : Wait) →
+        ended_entry (cond b (engines.Changes rows.Drain (effects.drain tables key)) (engines.WaitsFor wait)) ≡ None
+    by true wait = refl
+    by false wait = refl
 
 invalidate_ends : (tables : TableState) (post : Posted) (state : RightState) (e : Entry) (after : TableState) →
     invalidate tables post state ≡ Some (engines.Ends e after) →
@@ -107,9 +107,11 @@ posting v m p reached is =
     let runs = runs_at m post.by.process q by.1 in
     let call_is : q.call ≡ called.0 =
     same_Some q.call called.0 (sym runs.called ∙ ap (call_at m.script) by.2 ∙ called.1) in
-    let same : q ≡ p =
-    ap (λ (before : List Entry). record { call = q.call; at = q.at; before = before }) runs.before_is
-    ∙ ap (λ (at : At). place_of m at q.call) by.2 ∙ ap (place_of m post.by) call_is ∙ called.2 in
+    let here : q ≡ place_of m q.at q.call =
+    ap (λ (before : List Entry). record { call = q.call; at = q.at; before = before }) runs.before_is in
+    let there : place_of m q.at q.call ≡ place_of m post.by called.0 =
+    ap (λ (at : At). place_of m at q.call) by.2 ∙ ap (place_of m post.by) call_is in
+    let same : q ≡ p = here ∙ (there ∙ called.2) in
     subst (IsPosting m) same
     (record {
       post = post;

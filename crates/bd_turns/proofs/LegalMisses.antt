@@ -1,6 +1,5 @@
 -- What a device engine notes of a walk that missed is legal.
-use Rattle.std.proofs.Common.{◌≡◌, ◌≢◌, ℕ, ◌<◌, Bool, true, false, List, [], length, Option, None, Some, refl, sym, ap, ◌∙◌, subst, arith}
-use Rattle.std.specs.Prelude.{IsSome, slice_get}
+use Rattle.std.proofs.Common.{◌≡◌, ℕ, ◌<◌, Bool, true, false, length, Option, Some, refl, sym, ap, subst, arith}
 use Rattle.std.specs.Option.{option_and_then}
 use Rattle.std.proofs.lemmas.Bool.{false≢true}
 use Rattle.std.proofs.lemmas.Option.{none-some, same_Some}
@@ -13,7 +12,7 @@ use Rattle.bd_entry.specs.declared.entry.Entry.TheVariants as entries
 use Rattle.bd_entry.specs.Calls.{Place, fd_of, is_made_by, is_raw, named_fd, pieces_of_call}
 use Rattle.bd_entry.specs.NextEntries.{IsLegalAt}
 use Rattle.bd_entry.specs.Promises.{is_access_or_miss}
-use Rattle.bd_entry.specs.Refusals.{descriptor_of, goes_direct}
+use Rattle.bd_entry.specs.Refusals.{descriptor_of}
 use Rattle.bd_entry.specs.Rules.{EntryRule, FitsStore, IsOpen, NotRefused, Rights, RightWay}
 use Rattle.bd_entry.specs.RulesOfRights.{HasRights, NamedIsOpen, RawOrNot, ThePiece, WentDirect}
 use Rattle.bd_entry.specs.Store.{Descriptor, Store, descriptor_at}
@@ -28,7 +27,7 @@ use Rattle.bd_turns.proofs.RunningPlaces.{legal_is_added}
 use Rattle.bd_turns.proofs.StepEntries.{IsMiss}
 use Rattle.bd_turns.specs.Added.{IsAdded}
 use Rattle.bd_turns.specs.Reached.{IsReached}
-use Rattle.bd_turns.specs.State.{InHand, Missing, State, progress_of, running}
+use Rattle.bd_turns.specs.State.{InHand, Missing, State, running}
 
 -- ---- what all entries of pieces keep
 

@@ -1,23 +1,21 @@
 -- The direct accesses of device engines are legal.
-use Rattle.std.proofs.Common.{◌≡◌, ℕ, ◌+◌, ◌*◌, ◌≤◌, min, Bool, true, false, not, ◌||◌, cond, List, Option, None, Some, refl, sym, ap, ◌∙◌, subst, arith}
+use Rattle.std.proofs.Common.{◌≡◌, ℕ, ◌+◌, ◌*◌, ◌≤◌, min, Bool, true, false, not, ◌||◌, cond, Option, Some, refl, sym, ap, ◌∙◌, subst, arith}
 use Rattle.std.specs.Prelude.{nat_lt, slice_range}
 use Rattle.std.specs.Option.{option_and_then, option_map}
 use Rattle.std.proofs.lemmas.Bool.{false≢true}
-use Rattle.std.proofs.lemmas.Option.{none-some, same_Some}
-use Rattle.bd_base.specs.declared.journal.Way.{Way}
+use Rattle.std.proofs.lemmas.Option.{same_Some}
 use Rattle.bd_base.specs.declared.journal.Way.TheVariants as ways
 use Rattle.bd_base.specs.declared.limits.TheConstants.{BLOCK_SIZE}
 use Rattle.bd_base.specs.declared.script.How.{How}
 use Rattle.bd_base.specs.declared.script.How.TheVariants as hows
 use Rattle.bd_base.specs.declared.script.Mode.{Mode}
-use Rattle.bd_base.specs.declared.script.Mode.TheVariants.{R, Rw}
+use Rattle.bd_base.specs.declared.script.Mode.TheVariants.{Rw}
 use Rattle.bd_base.specs.declared.volume.Volume.{Volume}
 use Rattle.bd_base.specs.Pieces.{Piece}
 use Rattle.bd_entry.specs.declared.entry.Entry.{Entry}
-use Rattle.bd_entry.specs.declared.entry.Entry.TheVariants as entries
 use Rattle.bd_entry.specs.Calls.{Place, bytes_for_piece, does_write, fd_of, has_missed, is_raw, piece_end, piece_of_call}
 use Rattle.bd_entry.specs.NextEntries.{IsLegalAt}
-use Rattle.bd_entry.specs.Refusals.{descriptor_of, goes_direct}
+use Rattle.bd_entry.specs.Refusals.{descriptor_of}
 use Rattle.bd_entry.specs.Rules.{Allowed, EntryRule, FitsStore, IsOpen, NotRefused, RightBlock, RightBytes, RightFile, RightWay, Rights, WithinLimit}
 use Rattle.bd_entry.specs.RulesOfContents.{IsContent, bytes_within}
 use Rattle.bd_entry.specs.RulesOfRights.{IsWay, IsWayBy, MayWrite, ThePiece}
@@ -33,7 +31,7 @@ use Rattle.bd_turns.proofs.RunningPlaces.{legal_is_added}
 use Rattle.bd_turns.proofs.StepEntries.{IsMove}
 use Rattle.bd_turns.proofs.Translations.{IsTranslated, request_is, translated}
 use Rattle.bd_turns.specs.Added.{IsAdded}
-use Rattle.bd_turns.specs.Engines.{move_entry, move_entry_of, moved_bytes, request_for}
+use Rattle.bd_turns.specs.Engines.{move_entry, move_entry_of, request_for}
 use Rattle.bd_turns.specs.Reached.{IsReached}
 use Rattle.bd_turns.specs.State.{InHand, Moving, State, running}
 

@@ -1,5 +1,5 @@
 -- Each entry that a turn adds is the next one of the journal, and legal there.
-use Rattle.std.proofs.Common.{◌≡◌, Option, Some, ⊎_elim}
+use Rattle.std.proofs.Common.{⊎_elim}
 use Rattle.bd_base.specs.declared.volume.Volume.{Volume}
 use Rattle.bd_entry.specs.declared.entry.Entry.{Entry}
 use Rattle.bd_entry.specs.Calls.{Place}

@@ -64,3 +64,6 @@ pub mod EngineStepsOfCalls
 pub mod RightsOfTurns
 pub mod OwnRevocations
 pub mod PieceTurns
+pub mod ProcessorTurns
+pub mod EngineTurns
+pub mod Booting

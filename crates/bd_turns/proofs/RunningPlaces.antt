@@ -1,35 +1,30 @@
 -- What is known of the running call of a process, and what makes an entry the next one of the journal.
-use Rattle.std.proofs.Common.{◌≡◌, ◌≢◌, ℕ, ◌<◌, Bool, true, false, not, ◌&&◌, List, [], ◌∷◌, length, Option, None, Some, refl, sym, ap, ◌∙◌, subst, ⊎_elim}
-use Rattle.std.specs.Prelude.{nat_eq, slice_get, All, IfSome, IsSome}
-use Rattle.std.specs.List.{list_any}
-use Rattle.std.proofs.lemmas.Bool.{false≢true, or_cases}
-use Rattle.std.proofs.lemmas.Option.{MatchOption-at_some, slice_get_within}
+use Rattle.std.proofs.Common.{◌≡◌, ◌≢◌, ℕ, ◌<◌, Bool, true, false, not, ◌&&◌, List, [], ◌∷◌, length, Option, Some, refl, sym, ap, ◌∙◌, subst}
+use Rattle.std.specs.Prelude.{IfSome}
+use Rattle.std.proofs.lemmas.Bool.{false≢true}
+use Rattle.std.proofs.lemmas.Option.{slice_get_within}
 use Rattle.bd_base.specs.declared.journal.At.{At}
 use Rattle.bd_base.specs.declared.script.Call.{Call}
-use Rattle.bd_base.specs.declared.script.Call.TheVariants.{Enter, Create, Read, Write, Truncate, Unlink, Size, Map, Close, RawRead, RawWrite}
+use Rattle.bd_base.specs.declared.script.Call.TheVariants.{Enter, Unlink}
 use Rattle.bd_base.specs.declared.script.How.TheVariants as hows
 use Rattle.bd_base.specs.declared.volume.Volume.{Volume}
-use Rattle.bd_base.specs.Scripts.{IsCall}
 use Rattle.bd_entry.specs.declared.entry.Entry.{Entry}
 use Rattle.bd_entry.specs.Actions.{has_begun, is_none_of}
-use Rattle.bd_entry.specs.Calls.{Place, at_of, call_at, calls_of, entries_of, is_ended_by, piece_of_call, pieces_of_call}
-use Rattle.bd_entry.specs.Laws.{AreOfCall, IsNextOf}
+use Rattle.bd_entry.specs.Calls.{Place, at_of, call_at, calls_of, entries_of, is_ended_by, pieces_of_call}
 use Rattle.bd_entry.specs.NextEntries.{IsLegalAt, IsReadyPlace, IsRunning, goes_by_name, stays_allowed}
 use Rattle.bd_entry.specs.NextEntries as next
-use Rattle.bd_entry.specs.Refusals.{first_refusal}
 use Rattle.bd_entry.specs.Rules.{EntryRule, FitsCall, FitsScript, FitsStore, NextCall, Once, place_in}
 use Rattle.bd_entry.specs.RulesOfCalls.{IsFirstOfKind, IsNextCall, IsOfCall}
 use Rattle.bd_entry.specs.Store.{work_of}
-use Rattle.bd_entry.proofs.CallOrder.{is_finished-called, start_of}
-use Rattle.bd_entry.proofs.CallPieces.{All-slice_get}
-use Rattle.bd_entry.proofs.HistoryLaws.{history_leads, is_call, work_is_of_running_call}
-use Rattle.bd_entry.proofs.NextActs.{is_there, map_from}
+use Rattle.bd_entry.proofs.CallOrder.{is_finished-called}
+use Rattle.bd_entry.proofs.HistoryLaws.{work_is_of_running_call}
+use Rattle.bd_entry.proofs.NextActs.{map_from}
 use Rattle.bd_entry.proofs.NextReady.{running_calls_are_ready}
 use Rattle.bd_turns.proofs.FoundElements.{All-found, slice_get-there}
 use Rattle.bd_turns.specs.Added.{IsAdded}
 use Rattle.bd_turns.specs.Processors.{running_of}
 use Rattle.bd_turns.specs.Reached.{IsReached}
-use Rattle.bd_turns.specs.Sound.{AreAllowed, AreInTurn, keeps_allowed}
+use Rattle.bd_turns.specs.Sound.{AreInTurn, keeps_allowed}
 use Rattle.bd_turns.specs.State.{State, outstanding, place_of, progress_of, running, running_at}
 
 -- ---- the running call

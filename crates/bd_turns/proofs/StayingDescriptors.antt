@@ -1,9 +1,9 @@
 -- What stays of open descriptors after an entry, and which entries end their calls.
-use Rattle.std.proofs.Common.{◌≡◌, ◌≢◌, ℕ, ◌+◌, ◌-◌, ◌/◌, ◌<◌, ◌≤◌, Bool, true, false, ◌||◌, not, List, [], ◌∷◌, ◌++◌, length, map, Option, None, Some, refl, sym, ap, ◌∙◌, subst, arith, ⊎_elim}
+use Rattle.std.proofs.Common.{◌≡◌, ◌≢◌, ℕ, ◌+◌, ◌-◌, ◌/◌, ◌<◌, ◌≤◌, true, false, ◌||◌, not, List, [], ◌∷◌, ◌++◌, length, Option, None, Some, refl, sym, ap, ◌∙◌, subst, arith, ⊎_elim}
 use Rattle.std.specs.Prelude.{nat_lt}
-use Rattle.std.specs.Option.{option_and_then, option_map, option_map_or}
+use Rattle.std.specs.Option.{option_map_or}
 use Rattle.std.specs.List.{list_any, range_with_len}
-use Rattle.std.proofs.lemmas.Bool.{cases_Bool, false≢true, or_cases, or_left, or_right}
+use Rattle.std.proofs.lemmas.Bool.{cases_Bool, false≢true, or_left, or_right}
 use Rattle.std.proofs.lemmas.List.{length-map}
 use Rattle.std.proofs.lemmas.List.FromFn.{length-range_with_len}
 use Rattle.std.proofs.lemmas.List.Folds.{list_any-append}
@@ -11,7 +11,7 @@ use Rattle.std.proofs.lemmas.Option.{none-some, same_Some}
 use Rattle.bd_base.specs.declared.journal.At.{At}
 use Rattle.bd_base.specs.declared.limits.TheConstants.{BLOCK_SIZE}
 use Rattle.bd_base.specs.declared.script.Call.{Call}
-use Rattle.bd_base.specs.declared.script.Call.TheVariants.{Enter, Create, Read, Write, Truncate, Unlink, Size, Map, Close, RawRead, RawWrite}
+use Rattle.bd_base.specs.declared.script.Call.TheVariants.{Enter, Read, Write, Close, RawRead, RawWrite}
 use Rattle.bd_base.specs.declared.script.How.{How}
 use Rattle.bd_base.specs.declared.script.How.TheVariants as hows
 use Rattle.bd_base.specs.Pieces.{Piece, piece_at, pieces}
@@ -19,10 +19,10 @@ use Rattle.bd_base.specs.Scripts.{IsCall}
 use Rattle.bd_entry.specs.declared.entry.Entry.{Entry}
 use Rattle.bd_entry.specs.declared.entry.Entry.TheVariants.{Closed, Refused}
 use Rattle.bd_entry.specs.Actions.{is_for_device}
-use Rattle.bd_entry.specs.Calls.{Place, at_of, fd_of_call, is_end_of, is_ended_by, is_made_by, is_raw, named_fd, piece_end, piece_of_call, pieces_of_call}
+use Rattle.bd_entry.specs.Calls.{Place, at_of, fd_of_call, is_end_of, is_ended_by, is_made_by, is_raw, named_fd, piece_end, piece_of_call}
 use Rattle.bd_entry.specs.Effects.{after_change, after_telling, effect_of, tells_size, with_known_size, with_told_size}
 use Rattle.bd_entry.specs.Promises.{is_whole_refusal}
-use Rattle.bd_entry.specs.Refusals.{descriptor_of, goes_direct}
+use Rattle.bd_entry.specs.Refusals.{goes_direct}
 use Rattle.bd_entry.specs.Rules.{place_in}
 use Rattle.bd_entry.specs.RulesOfRights.{HasRightDescriptor, TheDescriptor}
 use Rattle.bd_entry.specs.Store.{Descriptor, Store, descriptor_at, is_plain, work_of}

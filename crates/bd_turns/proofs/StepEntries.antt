@@ -1,6 +1,6 @@
 -- Which entries device engines add: the access of a piece that they move, and what a walk found in its place.
 use Rattle.std.proofs.Common.{◌≡◌, ◌⊎◌, inl, inr, ℕ, List, [], ◌∷◌, Option, None, Some, refl, sym, ap, ◌∙◌}
-use Rattle.std.specs.Option.{option_and_then, option_map}
+use Rattle.std.specs.Option.{option_map}
 use Rattle.std.proofs.lemmas.Option.{none-some, same_Some}
 use Rattle.bd_base.specs.declared.journal.Found.{Found}
 use Rattle.bd_entry.specs.declared.entry.Entry.{Entry}
@@ -8,7 +8,6 @@ use Rattle.bd_entry.specs.declared.entry.Entry.TheVariants as entries
 use Rattle.bd_entry.specs.Calls.{Place}
 use Rattle.bd_entry.proofs.NextActs.{map_from, then_from}
 use Rattle.bd_tables.specs.declared.request.Completion.{Completion}
-use Rattle.bd_tables.specs.declared.request.Request.{Request}
 use Rattle.bd_tables.specs.State.{found_of, told_of, walk_at}
 use Rattle.bd_turns.specs.declared.turn.Row.TheVariants as rows
 use Rattle.bd_turns.specs.Engines.{Step, engine_step, engine_with, enter, fill, go_on, look, miss, move, move_entry_of, notes, read_entry, request_of_piece, take_command}

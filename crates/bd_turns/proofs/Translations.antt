@@ -1,5 +1,5 @@
 -- What an engine holds that is told a translation: the file's block at that index, under a right of its descriptor.
-use Rattle.std.proofs.Common.{◌≡◌, ℕ, ◌≤◌, ◌/◌, Bool, true, false, Option, None, Some, refl, sym, ap, ◌∙◌, subst, arith}
+use Rattle.std.proofs.Common.{◌≡◌, ℕ, ◌≤◌, true, Option, None, Some, refl, sym, ap, ◌∙◌, subst, arith}
 use Rattle.std.specs.Prelude.{slice_get}
 use Rattle.std.specs.Option.{option_and_then, option_map}
 use Rattle.std.specs.FinMap as fin
@@ -17,8 +17,8 @@ use Rattle.bd_tables.specs.declared.request.Request.{Request}
 use Rattle.bd_tables.specs.declared.state.Right.{Right}
 use Rattle.bd_tables.specs.declared.state.Walk.{Walk}
 use Rattle.bd_tables.specs.declared.state.Walk.TheVariants as walks
-use Rattle.bd_tables.specs.Sound.{IsHeldFor, IsOfEntry, IsSound, IsWithin, OnRight, granted_of}
-use Rattle.bd_tables.specs.State.{cell_of, lookup, told_of, walk_at}
+use Rattle.bd_tables.specs.Sound.{IsHeldFor, IsOfEntry, IsWithin, OnRight, granted_of}
+use Rattle.bd_tables.specs.State.{cell_of, told_of, walk_at}
 use Rattle.bd_turns.specs.Engines.{request_for, request_of_piece}
 use Rattle.bd_turns.specs.Sound.{AreTablesSound, cell_of_block}
 use Rattle.bd_turns.specs.State.{State}

@@ -1,45 +1,28 @@
 -- What each effective turn does to the calls.
-use Rattle.std.proofs.Common.{◌≡◌, ◌≢◌, ℕ, ◌<◌, Bool, true, false, ◌||◌, not, cond, List, [], ◌∷◌, ◌++◌, length, Option, None, Some, refl, sym, ap, ◌∙◌, subst, arith, ⊎_elim}
-use Rattle.std.specs.Prelude.{nat_eq, position, slice_get, All}
-use Rattle.std.specs.Option.{option_and_then, option_map, option_map_or, option_or, option_to_list}
-use Rattle.std.specs.List.{find, list_any}
-use Rattle.std.specs.FinMap as fin
-use Rattle.std.proofs.lemmas.Bool.{and_parts, cases_Bool, cond-true, false≢true, or_parts}
+use Rattle.std.proofs.Common.{◌≡◌, ◌≢◌, ℕ, ◌<◌, Bool, true, false, List, [], length, Option, None, Some, refl, sym, ap, ◌∙◌, subst, arith}
+use Rattle.std.specs.Prelude.{All}
+use Rattle.std.specs.List.{list_any}
 use Rattle.std.proofs.lemmas.List.{append-nil, length-set}
 use Rattle.std.proofs.lemmas.Option.{none-some, same_Some}
 use Rattle.bd_base.specs.declared.key.Key.{Key}
-use Rattle.bd_base.specs.declared.script.Call.{Call}
 use Rattle.bd_base.specs.declared.volume.Volume.{Volume}
 use Rattle.bd_entry.specs.declared.entry.Entry.{Entry}
-use Rattle.bd_entry.specs.declared.entry.Entry.TheVariants as entries
 use Rattle.bd_entry.specs.Actions.{is_for_device}
-use Rattle.bd_entry.specs.Calls.{Place, is_ended_by, pieces_of_call}
+use Rattle.bd_entry.specs.Calls.{Place, is_ended_by}
 use Rattle.bd_entry.specs.Laws.{IsHistory}
-use Rattle.bd_entry.specs.Promises.{is_access_or_miss, is_whole_refusal}
+use Rattle.bd_entry.specs.Promises.{is_whole_refusal}
 use Rattle.bd_entry.specs.Refusals.{file_of}
-use Rattle.bd_entry.specs.Store.{Descriptor, Store, descriptor_at}
-use Rattle.bd_entry.proofs.DescriptorSteps.{is_close}
 use Rattle.bd_entry.proofs.HistoryLaws.{histories_keep_valid, process_there}
-use Rattle.bd_tables.specs.Effects as effects
-use Rattle.bd_tables.specs.State.{TableState}
-use Rattle.bd_turns.proofs.AddedByActs.{processor_adds}
-use Rattle.bd_turns.proofs.ClosingCalls.{leaves_cleared}
 use Rattle.bd_turns.proofs.DoneTurns.{IsDone, grown, progress_of-other, progress_of-set}
-use Rattle.bd_turns.proofs.EngineStepsOfCalls.{StepDoes, at_none, step_access, step_all, step_commands, step_ended, step_held, step_is}
 use Rattle.bd_turns.proofs.KeptCalls.{in_turn_kept, processes_kept, unended_kept, unrefused_kept}
-use Rattle.bd_turns.proofs.KeptCommands.{clears_kept, commands_kept, device_kept, no_commands}
-use Rattle.bd_turns.proofs.LegalActs.{none_as_added, none_without_pieces, pieces_outstanding}
+use Rattle.bd_turns.proofs.KeptCommands.{clears_kept, commands_kept, device_kept}
 use Rattle.bd_turns.proofs.RunningPlaces.{runs_at}
 use Rattle.bd_turns.proofs.StayingDescriptors.{LeavesOpen}
-use Rattle.bd_turns.specs.Added.{AddsAt, IsAdded}
-use Rattle.bd_turns.specs.declared.turn.Row.{Row}
-use Rattle.bd_turns.specs.declared.turn.Row.TheVariants as rows
-use Rattle.bd_turns.specs.Processors as processors
-use Rattle.bd_turns.specs.Processors.{next_action, running_of}
+use Rattle.bd_turns.specs.Added.{IsAdded}
 use Rattle.bd_turns.specs.Reached.{IsReached}
 use Rattle.bd_turns.specs.Sound.{AreCallsSound, AreCommands, is_clear_at}
-use Rattle.bd_turns.specs.State.{Posted, Progress, State, holder_of, outstanding, progress_of, running, with_progress}
-use Rattle.bd_turns.specs.Turns.{after_effect, holds_after, holds_throughout, tables_after, with_entry, with_entry_if_any, with_hold}
+use Rattle.bd_turns.specs.State.{Progress, State, outstanding, progress_of, running, with_progress}
+use Rattle.bd_turns.specs.Turns.{after_effect, holds_throughout, with_entry_if_any}
 
 -- ---- what is owed of each turn
 
@@ -145,7 +128,7 @@ module _ (v : Volume) (m : State) (p : Place) (reached : IsReached v m) (is : ru
   device_now = reached.sound.calls.for_device process p is
 
 -- an entry that is not there leaves all open
-none_leaves : {A : Type 0} (e : Entry) → None ≡ Some e → A
+pub none_leaves : {A : Type 0} (e : Entry) → None ≡ Some e → A
 none_leaves e none = absurd (none-some e none)
 
 -- the entries without a new one

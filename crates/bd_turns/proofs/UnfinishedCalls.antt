@@ -1,11 +1,10 @@
 -- A call of which a piece has neither its access nor its miss is not finished in the journal.
-use Rattle.std.proofs.Common.{◌≡◌, ◌⊎◌, inl, inr, ℕ, zero, suc, ◌+◌, ◌<◌, Bool, true, false, ◌||◌, List, [], ◌∷◌, ◌++◌, length, Option, None, Some, refl, sym, ap, ◌∙◌, subst, arith, ⊎_elim}
-use Rattle.std.specs.Prelude.{nat_eq, IsSome, is_some, slice_get}
-use Rattle.std.specs.List.{list_all, list_any, range_with_len}
+use Rattle.std.proofs.Common.{◌≡◌, ℕ, zero, suc, ◌+◌, ◌<◌, Bool, true, false, ◌||◌, List, [], ◌∷◌, ◌++◌, length, None, refl, sym, subst, arith}
+use Rattle.std.specs.Prelude.{nat_eq, IsSome, slice_get}
+use Rattle.std.specs.List.{list_any, range_with_len}
 use Rattle.std.proofs.lemmas.Bool.{both_ways, eq-eqb, false_from_ne_true, false≢true, or_from, or_left, or_parts}
 use Rattle.std.proofs.lemmas.List.Elements.{All-contains}
 use Rattle.std.proofs.lemmas.List.Sums.{AllPass-from_list_all}
-use Rattle.std.proofs.lemmas.Option.{none-some}
 use Rattle.bd_base.specs.declared.journal.At.{At}
 use Rattle.bd_base.specs.declared.script.Call.{Call}
 use Rattle.bd_base.specs.declared.script.Call.TheVariants.{Read, Write, RawRead, RawWrite}
@@ -14,7 +13,7 @@ use Rattle.bd_base.specs.Pieces.{Piece}
 use Rattle.bd_base.proofs.Ranges.{range-of}
 use Rattle.bd_entry.specs.declared.entry.Entry.{Entry}
 use Rattle.bd_entry.specs.declared.entry.Entry.TheVariants.{Access, Missed, Refused}
-use Rattle.bd_entry.specs.Calls.{Place, are_all_answered, has_missed, is_answer_of, is_answered, is_end_of, is_ended_by, is_miss_of, is_raw, piece_of_call, pieces_of_call, raw_piece}
+use Rattle.bd_entry.specs.Calls.{are_all_answered, has_missed, is_answer_of, is_answered, is_end_of, is_ended_by, is_miss_of, piece_of_call, pieces_of_call, raw_piece}
 use Rattle.bd_entry.specs.Laws.{AreOfCall}
 use Rattle.bd_entry.specs.Promises.{is_whole_refusal}
 use Rattle.bd_entry.specs.RulesOfCalls.{HasFieldsOf}

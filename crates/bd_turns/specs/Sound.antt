@@ -331,7 +331,8 @@ pub record HasProcesses (m : State) : Type 0 where
   pub ended : (process : ℕ) → (progress_of m process).ended ≤ length (calls_of m.script process)
 
 -- the script, the processes and the store. Entries are legal, and a legal entry keeps a store valid; a call ends once its
--- entries end it and none of its commands is left, and only then comes the next.
+-- entries end it and none of its commands is left, and only then comes the next. A call that is refused as a whole ends at
+-- once; one that cleared a right holds its file to the end, so nobody else closes that descriptor meanwhile.
 pub record AreCallsSound (m : State) : Type 0 where
   pub limits : IsWithinLimits m.script
   pub processes : HasProcesses m

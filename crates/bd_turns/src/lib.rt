@@ -10,3 +10,4 @@ pub use laws::{journal_grows, one_course, turns_without_effect};
 pub use progress_laws::{never_stuck, rest_falls, turns_keep_within};
 pub use turn_laws::{turns_add_legally, turns_keep_history};
 pub use turn::{Event, EventList, Row, Turn, Wait};
+pub use turn_laws::{boot_is_reached, turns_add_legally, turns_keep_calls, turns_keep_history};
