@@ -19,11 +19,15 @@ pub mod EntriesOfCalls
 pub mod FilesOfCalls
 pub mod Growing
 pub mod HoldsAfterTurns
+pub mod HoldsKept
 pub mod Invalidations
+pub mod KeysOfCalls
 pub mod OwnActs
+pub mod PostedAfterTurns
 pub mod RefusalsAfterTurns
 pub mod RefusalsStayAway
 pub mod Revocations
+pub mod RevokedAfterTurns
 pub mod RightsAfterTurns
 pub mod RightsOnFiles
 pub mod FoundElements

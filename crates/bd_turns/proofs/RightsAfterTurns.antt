@@ -38,7 +38,7 @@ use Rattle.bd_turns.specs.Reached.{IsReached}
 use Rattle.bd_turns.specs.Sound.{AreRightsOf, IsRightOf, is_clear, is_clear_at, is_revoked}
 use Rattle.bd_turns.specs.State.{Posted, State, place_of, progress_of, running}
 use Rattle.bd_turns.specs.Turns.{attached_tables, grown_tables, may_write, posting_place, tables_after}
-use Rattle.bd_turns.proofs.ActionsOfCalls.{Ahead, adds_for, ahead}
+use Rattle.bd_turns.proofs.ActionsOfCalls.{Ahead, IsPassed, adds_for, ahead}
 use Rattle.bd_turns.proofs.CallsAfterTurns.{runs_at, runs_of}
 use Rattle.bd_turns.proofs.OwnActs.{clears_not, revokes_just}
 use Rattle.bd_turns.proofs.Revocations.{Clears, revokes-adds, revokes-row}
@@ -67,7 +67,7 @@ pub data Changes (m next : State) (p : Place) (entry : Option Entry) : Type 0 wh
   clears : (key : Key) (right : Right) → fin.get m.tables.rights key ≡ Some right → right.state ≡ states.On →
       SetsAt m next key (Some (record right { state = states.Cleared })) → next.posted ≡ m.posted →
       entry ≡ Some (entries.Cleared p.at key.process key.fd key.part) → unposted m (keys_to_revoke m.store p p.call) ≡ None → Changes m next p entry
-  posts : (key : Key) → ((other : Key) → fin.get next.tables.rights other ≡ fin.get m.tables.rights other) →
+  posts : (key : Key) → IsPassed m p → ((other : Key) → fin.get next.tables.rights other ≡ fin.get m.tables.rights other) →
       next.posted ≡ m.posted ++ (record { key = key; by = p.at }) ∷ [] → unposted m (keys_to_revoke m.store p p.call) ≡ Some key →
       entry ≡ None → Changes m next p entry
   moves : (post : Posted) (rest : List Posted) (right : Right) (swept : List Bool) → IsFront m p post rest →

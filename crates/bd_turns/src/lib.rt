@@ -1,11 +1,13 @@
 //! The abstract machine: what each actor's turn answers, and the state after it.
 #![tactic(auto)]
 
+mod hold_laws;
 mod laws;
 mod progress_laws;
 mod turn;
 mod turn_laws;
 
+pub use hold_laws::turns_keep_holds;
 pub use laws::{journal_grows, one_course, turns_without_effect};
 pub use progress_laws::{never_stuck, rest_falls, turns_keep_within};
 pub use turn_laws::{turns_add_legally, turns_keep_history};
