@@ -2,3 +2,5 @@
 pub mod Cases
 pub mod Growing
 pub mod Determined
+pub mod RightsFit
+pub mod RightsSteps
