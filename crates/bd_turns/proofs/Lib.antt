@@ -4,3 +4,5 @@ pub mod Growing
 pub mod Determined
 pub mod RightsFit
 pub mod RightsSteps
+pub mod HandFrames
+pub mod QuietProcessors
