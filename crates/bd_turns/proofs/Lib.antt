@@ -6,3 +6,4 @@ pub mod RightsFit
 pub mod RightsSteps
 pub mod HandFrames
 pub mod QuietProcessors
+pub mod AddedEntries
