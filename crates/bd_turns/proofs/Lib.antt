@@ -7,3 +7,4 @@ pub mod RightsSteps
 pub mod HandFrames
 pub mod QuietProcessors
 pub mod AddedEntries
+pub mod EngineSteps
