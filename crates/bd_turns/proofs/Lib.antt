@@ -8,3 +8,4 @@ pub mod HandFrames
 pub mod QuietProcessors
 pub mod AddedEntries
 pub mod EngineSteps
+pub mod RightsKept
