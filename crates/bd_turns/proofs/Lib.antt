@@ -9,3 +9,4 @@ pub mod QuietProcessors
 pub mod AddedEntries
 pub mod EngineSteps
 pub mod RightsKept
+pub mod CellsOfFiles
