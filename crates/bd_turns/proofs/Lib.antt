@@ -10,3 +10,5 @@ pub mod AddedEntries
 pub mod EngineSteps
 pub mod RightsKept
 pub mod CellsOfFiles
+pub mod CellsOfPairs
+pub mod CellsOfGrowth

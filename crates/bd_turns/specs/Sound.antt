@@ -21,6 +21,8 @@ use Rattle.bd_entry.specs.NextEntries.{stays_allowed}
 use Rattle.bd_entry.specs.Refusals.{file_of, first_refusal}
 use Rattle.bd_entry.specs.RulesOfRights.{HasRights}
 use Rattle.bd_entry.specs.Store.{Descriptor, Store, Valid, blocks_in, descriptor_at, has_part, limit_in, size_in}
+use Rattle.bd_file_table.specs.Fragments.{Cells}
+use Rattle.bd_lines.specs.declared.lines.TheConstants.{LINES}
 use Rattle.bd_tables.specs.declared.request.Request.{Request}
 use Rattle.bd_tables.specs.declared.state.Right.{Right}
 use Rattle.bd_tables.specs.declared.state.RightState.{RightState}
@@ -74,6 +76,18 @@ abbrev pub AreLookupsOf : State → Type 0
 AreLookupsOf m =
     (key : Key) (right : Right) (index : ℕ) → fin.get m.tables.rights key ≡ Some right →
     index / PART_BLOCKS ≡ key.part → lookup m.tables key index ≡ cell_of_block m.store right.file index
+
+-- the pair of each attached key is in use, with a cell for each block of a part
+abbrev pub AreWhole : State → Type 0
+AreWhole m =
+    (key : Key) (right : Right) → fin.get m.tables.rights key ≡ Some right →
+    (cells : Cells) × (fin.get m.tables.cells (pair_under key right) ≡ Some cells) × (length cells ≡ PART_BLOCKS)
+
+-- a drained key has a mark for each line of the cache
+abbrev pub AreMarked : State → Type 0
+AreMarked m =
+    (key : Key) (right : Right) (swept : List Bool) → fin.get m.tables.rights key ≡ Some right →
+    right.state ≡ states.Drained swept → length swept ≡ LINES
 
 -- the pairs in use are those that some attached key is about
 abbrev pub AreUsed : State → Type 0
@@ -308,7 +322,9 @@ pub record AreCallsSound (m : State) : Type 0 where
 pub record AreTablesSound (m : State) : Type 0 where
   pub rights : AreRightsOf m
   pub lookups : AreLookupsOf m
+  pub whole : AreWhole m
   pub used : AreUsed m
+  pub marked : AreMarked m
   pub tables : IsSound m.tables
   pub hands : (process : ℕ) (p : Place) (hand : InHand) → running m process ≡ Some p →
       (progress_of m process).hand ≡ Some hand → IsWalkFor m p hand
