@@ -6,6 +6,7 @@ use Rattle.std.specs.Option.{option_map}
 use Rattle.std.specs.FinMap as fin
 use Rattle.std.proofs.lemmas.Bool.{both_ways, cases_Bool, cases_eq, cases_lt}
 use Rattle.std.proofs.lemmas.List.{get_or-set_other, get_or-set_same, length-set}
+use Rattle.std.proofs.lemmas.List.FromFn.{get_or-map-range_with_len, length-map-range_with_len}
 use Rattle.std.proofs.lemmas.Option.{none-some, same_Some}
 use Rattle.bd_base.specs.declared.key.Cell.{Cell}
 use Rattle.bd_base.specs.declared.key.Key.{Key}
@@ -138,3 +139,58 @@ entry_of_block rights cells s file index are P holds = by (fin.get cells (block_
         let has = cells_of_used rights cells s are (block_pair file index) (ap is_some is) in
         let one : has.its ≡ its = same_Some has.its its (sym has.there ∙ is) in
         subst P (sym (ap (λ (c : Cells). cell_at c (index % PART_BLOCKS)) (sym one) ∙ has.looks index refl)) holds
+
+-- ---- the cells of a part
+
+-- the cell that a slot of blocks has there
+abbrev cell_if : Store → ℕ → ℕ → Option ℕ → Option Cell
+cell_if s file index block = option_map (cell_in s file index) block
+
+get-taken : (n : ℕ) (xs : List ℕ) (i : ℕ) → i < n → slice_get (take n xs) i ≡ slice_get xs i
+get-taken zero xs i within = absurd (let none : i < 0 = within in omega arith)
+get-taken (suc n) [] i within = refl
+get-taken (suc n) (x ∷ xs) zero within = refl
+get-taken (suc n) (x ∷ xs) (suc i) within = get-taken n xs i (let less : suc i < suc n = within in omega arith)
+
+get-dropped : (n : ℕ) (xs : List ℕ) (i : ℕ) → slice_get (drop n xs) i ≡ slice_get xs (n + i)
+get-dropped zero xs i = ap (slice_get xs) (let same : i ≡ 0 + i = omega arith in same)
+get-dropped (suc n) [] i = refl
+get-dropped (suc n) (x ∷ xs) i =
+    get-dropped n xs i ∙ ap (slice_get (x ∷ xs)) (let same : suc (n + i) ≡ suc n + i = omega arith in same)
+
+cells_from-at : (s : Store) (file first : ℕ) (blocks : List ℕ) (j : ℕ) →
+    slice_get (cells_from s file first blocks) j ≡ cell_if s file (first + j) (slice_get blocks j)
+cells_from-at s file first [] j = refl
+cells_from-at s file first (block ∷ blocks) zero =
+    ap (λ (n : ℕ). Some (cell_in s file n block)) (let same : first ≡ first + 0 = omega arith in same)
+cells_from-at s file first (block ∷ blocks) (suc j) =
+    cells_from-at s file (first + 1) blocks j
+    ∙ ap (λ (n : ℕ). cell_if s file n (slice_get blocks j)) (let same : first + 1 + j ≡ first + suc j = omega arith in same)
+
+-- the cell of a block of a file
+cell_of_block-is : (s : Store) (file index : ℕ) → cell_of_block s file index ≡ cell_if s file index (slice_get (blocks_in s file) index)
+cell_of_block-is s file index = by (slice_get (blocks_in s file) index) refl
+  where
+    by : (block : Option ℕ) → slice_get (blocks_in s file) index ≡ block → cell_of_block s file index ≡ cell_if s file index block
+    by None is = rw is refl
+    by (Some block) is = rw is refl
+
+pub padded-size : (new : List Cell) → length (padded new) ≡ PART_BLOCKS
+padded-size new = length-map-range_with_len (slice_get new) 0 PART_BLOCKS
+
+-- an attach hands in the cells of the part
+pub part_cells-look : (s : Store) (file part index : ℕ) → index / PART_BLOCKS ≡ part →
+    cell_at (padded (cells_of_part s file part)) (index % PART_BLOCKS) ≡ cell_of_block s file index
+part_cells-look s file part index of_part =
+    let j : ℕ = index % PART_BLOCKS in
+    let first : ℕ = PART_BLOCKS * part in
+    let within : j < PART_BLOCKS = omega arith in
+    let at : first + j ≡ index = omega arith in
+    let count : first + PART_BLOCKS - first ≡ PART_BLOCKS = omega arith in
+    let blocks = blocks_in s file in
+    get_or-map-range_with_len (slice_get (cells_of_part s file part)) 0 PART_BLOCKS j j None within (omega arith)
+    ∙ cells_from-at s file first (slice_range blocks first (first + PART_BLOCKS)) j
+    ∙ ap (cell_if s file (first + j))
+    (ap (λ (n : ℕ). slice_get (take n (drop first blocks)) j) count ∙ get-taken PART_BLOCKS (drop first blocks) j within ∙ get-dropped first blocks j)
+    ∙ ap (λ (n : ℕ). cell_if s file n (slice_get blocks n)) at
+    ∙ sym (cell_of_block-is s file index)
