@@ -12,3 +12,4 @@ pub mod RightsKept
 pub mod CellsOfFiles
 pub mod CellsOfPairs
 pub mod CellsOfGrowth
+pub mod FilesOfRights
