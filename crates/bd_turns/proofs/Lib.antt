@@ -13,3 +13,4 @@ pub mod CellsOfFiles
 pub mod CellsOfPairs
 pub mod CellsOfGrowth
 pub mod FilesOfRights
+pub mod TableParts
