@@ -129,18 +129,18 @@ cell_there f index block is = rw is refl
 -- ---- a file that grows
 
 -- a block of a list is one of a longer list
-get-append : (xs ys : List ℕ) (i : ℕ) → i < length xs → slice_get (xs ++ ys) i ≡ slice_get xs i
+pub get-append : (xs ys : List ℕ) (i : ℕ) → i < length xs → slice_get (xs ++ ys) i ≡ slice_get xs i
 get-append [] ys i within = absurd (let none : i < 0 = within in omega arith)
 get-append (x ∷ xs) ys zero within = refl
 get-append (x ∷ xs) ys (suc i) within = get-append xs ys i (let less : suc i < suc (length xs) = within in omega arith)
 
-get-last : (xs : List ℕ) (x i : ℕ) → i ≡ length xs → slice_get (xs ++ x ∷ []) i ≡ Some x
+pub get-last : (xs : List ℕ) (x i : ℕ) → i ≡ length xs → slice_get (xs ++ x ∷ []) i ≡ Some x
 get-last [] x zero is = refl
 get-last [] x (suc i) is = absurd (let no_index : suc i ≡ 0 = is in omega arith)
 get-last (y ∷ xs) x zero is = absurd (let no_index : 0 ≡ suc (length xs) = is in omega arith)
 get-last (y ∷ xs) x (suc i) is = get-last xs x i (let same : suc i ≡ suc (length xs) = is in omega arith)
 
-limit_there : (size : ℕ) (blocks : List ℕ) (index : ℕ) → index < length blocks → limit_of size blocks index ≡ min BLOCK_SIZE (size - BLOCK_SIZE * index)
+pub limit_there : (size : ℕ) (blocks : List ℕ) (index : ℕ) → index < length blocks → limit_of size blocks index ≡ min BLOCK_SIZE (size - BLOCK_SIZE * index)
 limit_there size blocks index within = cond-true (nat_lt index (length blocks)) _ _ (lt-ltb index (length blocks) within)
 
 -- what a growth does to a file: its last block is new, or reaches further

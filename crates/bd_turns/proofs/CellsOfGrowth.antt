@@ -143,7 +143,7 @@ entry_of_block rights cells s file index are P holds = by (fin.get cells (block_
 -- ---- the cells of a part
 
 -- the cell that a slot of blocks has there
-abbrev cell_if : Store → ℕ → ℕ → Option ℕ → Option Cell
+abbrev pub cell_if : Store → ℕ → ℕ → Option ℕ → Option Cell
 cell_if s file index block = option_map (cell_in s file index) block
 
 get-taken : (n : ℕ) (xs : List ℕ) (i : ℕ) → i < n → slice_get (take n xs) i ≡ slice_get xs i
@@ -168,7 +168,7 @@ cells_from-at s file first (block ∷ blocks) (suc j) =
     ∙ ap (λ (n : ℕ). cell_if s file n (slice_get blocks j)) (let same : first + 1 + j ≡ first + suc j = omega arith in same)
 
 -- the cell of a block of a file
-cell_of_block-is : (s : Store) (file index : ℕ) → cell_of_block s file index ≡ cell_if s file index (slice_get (blocks_in s file) index)
+pub cell_of_block-is : (s : Store) (file index : ℕ) → cell_of_block s file index ≡ cell_if s file index (slice_get (blocks_in s file) index)
 cell_of_block-is s file index = by (slice_get (blocks_in s file) index) refl
   where
     by : (block : Option ℕ) → slice_get (blocks_in s file) index ≡ block → cell_of_block s file index ≡ cell_if s file index block

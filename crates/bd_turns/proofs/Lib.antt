@@ -14,3 +14,4 @@ pub mod CellsOfPairs
 pub mod CellsOfGrowth
 pub mod FilesOfRights
 pub mod TableParts
+pub mod TablesOfGrowth
