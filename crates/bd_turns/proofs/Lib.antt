@@ -15,3 +15,4 @@ pub mod CellsOfGrowth
 pub mod FilesOfRights
 pub mod TableParts
 pub mod TablesOfGrowth
+pub mod TablesOfEntries
