@@ -16,3 +16,4 @@ pub mod FilesOfRights
 pub mod TableParts
 pub mod TablesOfGrowth
 pub mod TablesOfEntries
+pub mod TablesOfEngines
