@@ -17,3 +17,4 @@ pub mod TableParts
 pub mod TablesOfGrowth
 pub mod TablesOfEntries
 pub mod TablesOfEngines
+pub mod TablesOfSteps

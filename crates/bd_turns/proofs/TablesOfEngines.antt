@@ -144,7 +144,7 @@ abbrev pub RefusedOpen : Rights → Walk → Type 0
 RefusedOpen rights walk = (request : Request) (found : Found) → walk ≡ Refused request found → found ≢ NoDirectory →
     OnRight (λ right. IsOpen right.state) (fin.get rights request.key)
 
-open_with_walk : (rights : Rights) (all : List Walk) (process : ℕ) (walk : Walk) → RefusedOpen rights walk → AreOpen rights all →
+pub open_with_walk : (rights : Rights) (all : List Walk) (process : ℕ) (walk : Walk) → RefusedOpen rights walk → AreOpen rights all →
     AreOpen rights (set all process walk)
 open_with_walk rights all process walk new old q request found is other =
     ⊎_elim
@@ -165,7 +165,7 @@ found_in (Entered request) none = none
 found_in (Refused request found) none = found
 found_in (Translated request completion) none = none
 
-is_refused : Walk → Bool
+abbrev pub is_refused : Walk → Bool
 is_refused Idle = false
 is_refused (Entered request) = false
 is_refused (Refused request found) = true
@@ -179,8 +179,7 @@ same_found : (a b : Request) (f g : Found) → Refused a f ≡ Refused b g → f
 unfolding found_in
 same_found a b f g is = ap (λ (w : Walk). found_in w f) is
 
-never_refused : (rights : Rights) (walk : Walk) → is_refused walk ≡ false → RefusedOpen rights walk
-unfolding is_refused
+pub never_refused : (rights : Rights) (walk : Walk) → is_refused walk ≡ false → RefusedOpen rights walk
 never_refused rights walk none request found is other = absurd (false≢true (sym none ∙ ap is_refused is))
 
 -- a refused walk for a request is open where the right of the request is
@@ -191,8 +190,7 @@ refused_open rights request found holds other finding is differs =
     (holds (λ none. differs (sym (same_found request other found finding is) ∙ none)))
 
 -- who enters is refused in an open key, or finds no directory
-entered_open : (rights : Rights) (request : Request) → RefusedOpen rights (entered_walk request (found_entering (fin.get rights request.key) request.write))
-unfolding is_refused
+pub entered_open : (rights : Rights) (request : Request) → RefusedOpen rights (entered_walk request (found_entering (fin.get rights request.key) request.write))
 entered_open rights request = by (fin.get rights request.key) refl
   where
     under : (right : Right) → fin.get rights request.key ≡ Some right → (state : RightState) → right.state ≡ state → (found : Option Found) →
@@ -209,15 +207,13 @@ entered_open rights request = by (fin.get rights request.key) refl
     by None none = refused_open rights request NoDirectory (λ other. absurd (other refl))
     by (Some right) is = under right is right.state refl (found_under right.state right.write request.write) refl
 
-looked_open : (rights : Rights) (request : Request) (cell : Option Cell) → RefusedOpen rights (looked_walk request cell)
-unfolding is_refused
+pub looked_open : (rights : Rights) (request : Request) (cell : Option Cell) → RefusedOpen rights (looked_walk request cell)
 looked_open rights request None = never_refused rights (Entered request) refl
 looked_open rights request (Some cell) = never_refused rights (looked_walk request (Some cell)) refl
 
 -- who reads an entry is in an open key
-read_open : (rights : Rights) (request : Request) (cell : Option Cell) → OnRight (Allows request) (fin.get rights request.key) →
+pub read_open : (rights : Rights) (request : Request) (cell : Option Cell) → OnRight (Allows request) (fin.get rights request.key) →
     RefusedOpen rights (read_walk request cell)
-unfolding is_refused
 read_open rights request cell allowed = by cell
   where
     open_right : (r : Option Right) → OnRight (Allows request) r → OnRight (λ right. IsOpen right.state) r
