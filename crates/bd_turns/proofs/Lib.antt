@@ -18,3 +18,4 @@ pub mod TablesOfGrowth
 pub mod TablesOfEntries
 pub mod TablesOfEngines
 pub mod TablesOfSteps
+pub mod PieceCalls
