@@ -19,3 +19,4 @@ pub mod TablesOfEntries
 pub mod TablesOfEngines
 pub mod TablesOfSteps
 pub mod PieceCalls
+pub mod HandsKept
