@@ -15,7 +15,7 @@ use Rattle.bd_turns.specs.State.{Posted, State, place_of, running, running_at}
 use Rattle.bd_turns.specs.Turns.{Outcome, Nothing, Waiting, Acting, after_adding, after_effect, after_ending, after_polling, after_posting, after_step, after_submitting, after_turn, engine_outcome, invalidation_outcome, outcome_of, outcome_of_action, outcome_of_invalidation, posting_place, process_count, processor_outcome, state_after}
 
 -- the state that each kind of effective turn leads to
-data Effective (m : State) : State → Type 0 where
+pub data Effective (m : State) : State → Type 0 where
   adds : (p : Place) (row : Row) (entry : Entry) → running m p.at.process ≡ Some p →
       next_action m p ≡ Some (processors.Adds row entry) → Effective m (after_adding m p row entry)
   posts : (p : Place) (key : _) → running m p.at.process ≡ Some p →
@@ -36,12 +36,12 @@ data Effective (m : State) : State → Type 0 where
 -- ---- the cases of a turn
 
 -- a turn leaves the state, or is effective
-data Leads (m next : State) : Type 0 where
+pub data Leads (m next : State) : Type 0 where
   stays : next ≡ m → Leads m next
   acts : Effective m next → Leads m next
 
 -- the place of the running call of a process is of that process
-running_process : (m : State) (process : ℕ) (p : Place) → running m process ≡ Some p → p.at.process ≡ process
+pub running_process : (m : State) (process : ℕ) (p : Place) → running m process ≡ Some p → p.at.process ≡ process
 running_process m process p is = by (call_at m.script (running_at m process)) is
   where
     by : (call : Option _) → option_map (place_of m (running_at m process)) call ≡ Some p → p.at.process ≡ process
@@ -75,7 +75,7 @@ of_invalidation m p is (engines.Ends entry tables) acting = acts (ends p entry t
 of_invalidation m p is (engines.WaitsFor wait) acting = stays refl
 
 -- the running call of a process, at a place of that process
-running_there : (m : State) (process : ℕ) (p : Place) → running m process ≡ Some p → running m p.at.process ≡ Some p
+pub running_there : (m : State) (process : ℕ) (p : Place) → running m process ≡ Some p → running m p.at.process ≡ Some p
 running_there m process p is = ap (running m) (running_process m process p is) ∙ is
 
 processor_leads : (m : State) (process : ℕ) → Leads m (state_after m (processor_outcome m process))
@@ -94,7 +94,7 @@ invalidation_leads m =
     (λ p is. of_option m (outcome_of_invalidation m p) (invalidation_of m.tables m.posted) (of_invalidation m p is))
 
 -- a turn leaves the state or is one of the effective ones
-turn_leads : (m : State) (actor : ℕ) → Leads m (after_turn m actor)
+pub turn_leads : (m : State) (actor : ℕ) → Leads m (after_turn m actor)
 turn_leads m actor =
     of_cond m (nat_lt actor (process_count m)) _ _ (processor_leads m actor)
     (of_cond m (nat_lt actor (2 * process_count m)) _ _ (engine_leads m (actor - process_count m)) (invalidation_leads m))

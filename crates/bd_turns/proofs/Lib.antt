@@ -20,3 +20,4 @@ pub mod TablesOfEngines
 pub mod TablesOfSteps
 pub mod PieceCalls
 pub mod HandsKept
+pub mod HandsOfSteps
