@@ -153,7 +153,7 @@ pub record Grows (f : Inode) (to : ℕ) (block : Option ℕ) : Type 0 where
   pub how : Grown f to block
   pub others : (index : ℕ) → index ≢ (to - 1) / BLOCK_SIZE → cell_of_slot (Some (grown_file f block to)) index ≡ cell_of_slot (Some f) index
 
-some_at : (xs : List ℕ) (i : ℕ) → i < length xs → (x : ℕ) × (slice_get xs i ≡ Some x)
+pub some_at : (xs : List ℕ) (i : ℕ) → i < length xs → (x : ℕ) × (slice_get xs i ≡ Some x)
 some_at [] i within = absurd (let none : i < 0 = within in omega arith)
 some_at (x ∷ xs) zero within = (x, refl)
 some_at (x ∷ xs) (suc i) within = some_at xs i (let less : suc i < suc (length xs) = within in omega arith)

@@ -21,3 +21,5 @@ pub mod TablesOfSteps
 pub mod PieceCalls
 pub mod HandsKept
 pub mod HandsOfSteps
+pub mod FindsKept
+pub mod FindsOfOthers

@@ -72,13 +72,12 @@ acts_on_commands s holders r (RawWrite address lo bytes) act pieces some is =
 acts_on_commands s holders r call act pieces some is = absurd (let none : 0 < 0 = pieces in omega arith)
 
 -- such an action neither adds an entry nor posts a key
-pub IsQuiet : Action → Type 0
+abbrev pub IsQuiet : Action → Type 0
 IsQuiet (processors.Adds row entry) = ⊥
 IsQuiet (processors.Posts key) = ⊥
 IsQuiet action = Unit {0}
 
 quiet_poll : (progress : Progress) → IsQuiet (poll progress)
-unfolding IsQuiet
 quiet_poll progress = by (is_none_of progress.completed)
   where
     by : (b : Bool) → IsQuiet (cond b (processors.WaitsFor (waits.Completion (processors.least_outstanding (outstanding progress)))) processors.Polls)
@@ -86,7 +85,6 @@ quiet_poll progress = by (is_none_of progress.completed)
     by false = tt
 
 quiet_action : (m : State) (p : Place) (act : Act) (action : Action) → IsForEngine act → action_for m p act ≡ Some action → IsQuiet action
-unfolding IsQuiet
 quiet_action m p (acts.Submit piece) action for is = subst IsQuiet (same_Some (processors.Submits piece) action is) tt
 quiet_action m p acts.Poll action for is =
     subst IsQuiet (same_Some (poll (progress_of m p.at.process)) action is) (quiet_poll (progress_of m p.at.process))
