@@ -23,3 +23,4 @@ pub mod HandsKept
 pub mod HandsOfSteps
 pub mod FindsKept
 pub mod FindsOfOthers
+pub mod FindsOfWalks
