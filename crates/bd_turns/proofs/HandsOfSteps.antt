@@ -31,7 +31,7 @@ use Rattle.bd_turns.proofs.TablesOfSteps.{IsRequest, is_request, request_process
 -- ---- walks
 
 -- the walk of a process that is there, as it was set
-walk_here : (all : List Walk) (process other : ℕ) (walk : Walk) → other ≡ process → other < length all → walk_at (set all process walk) other ≡ walk
+pub walk_here : (all : List Walk) (process other : ℕ) (walk : Walk) → other ≡ process → other < length all → walk_at (set all process walk) other ≡ walk
 walk_here all process other walk same within =
     ap (λ (n : ℕ). walk_at (set all n walk) other) (sym same) ∙ get_or-set_same all other walk Idle within
 

@@ -24,3 +24,5 @@ pub mod HandsOfSteps
 pub mod FindsKept
 pub mod FindsOfOthers
 pub mod FindsOfWalks
+pub mod NotableSteps
+pub mod NotableKept

@@ -171,11 +171,11 @@ is_refused (Entered request) = false
 is_refused (Refused request found) = true
 is_refused (Translated request completion) = false
 
-same_request : (a b : Request) (f g : Found) → Refused a f ≡ Refused b g → a ≡ b
+pub same_request : (a b : Request) (f g : Found) → Refused a f ≡ Refused b g → a ≡ b
 unfolding request_in
 same_request a b f g is = ap (λ (w : Walk). request_in w a) is
 
-same_found : (a b : Request) (f g : Found) → Refused a f ≡ Refused b g → f ≡ g
+pub same_found : (a b : Request) (f g : Found) → Refused a f ≡ Refused b g → f ≡ g
 unfolding found_in
 same_found a b f g is = ap (λ (w : Walk). found_in w f) is
 

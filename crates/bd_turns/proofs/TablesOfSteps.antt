@@ -78,7 +78,7 @@ tables_with_walk s tables process walk sound opened are = record {
 }
 
 -- who is granted has a right that allows the request
-allowed_at : (tables : TableState) → IsSound tables → (process : ℕ) (request : Request) → walk_at tables.walks process ≡ Entered request →
+pub allowed_at : (tables : TableState) → IsSound tables → (process : ℕ) (request : Request) → walk_at tables.walks process ≡ Entered request →
     OnRight (Allows request) (fin.get tables.rights request.key)
 allowed_at tables sound process request is = sound.granted process request (ap granted_of is)
 
