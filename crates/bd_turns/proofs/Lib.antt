@@ -26,3 +26,4 @@ pub mod FindsOfOthers
 pub mod FindsOfWalks
 pub mod NotableSteps
 pub mod NotableKept
+pub mod TablesKept
