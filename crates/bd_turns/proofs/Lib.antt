@@ -96,3 +96,4 @@ pub mod NotableSteps
 pub mod NotableKept
 pub mod TablesKept
 pub mod EngineStepsOfTables
+pub mod PieceSteps

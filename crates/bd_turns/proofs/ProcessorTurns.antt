@@ -68,7 +68,7 @@ cleared_without (Create name perms) at owner fd part made = refl
 cleared_without call at owner fd part made = absurd (false≢true made)
 
 -- nothing is outstanding as a processor adds an entry
-none_as_processor_adds : (v : Volume) (m : State) (p : Place) (row : Row) (e : Entry) → IsReached v m → running m p.at.process ≡ Some p →
+pub none_as_processor_adds : (v : Volume) (m : State) (p : Place) (row : Row) (e : Entry) → IsReached v m → running m p.at.process ≡ Some p →
     next_action m p ≡ Some (processors.Adds row e) → IsAdded v m p e → outstanding (progress_of m p.at.process) ≡ []
 none_as_processor_adds v m p row e reached is acting added =
     let all = pieces_outstanding v m p reached is in
@@ -153,13 +153,13 @@ posts_sound v m p post reached is history =
 -- ---- submissions and polls
 
 -- what is known of a piece that is submitted
-record IsFresh (m : State) (p : Place) (piece : ℕ) : Type 0 where
-  within : piece < length (pieces_of_call p.call)
-  untold : is_told p piece ≡ false
-  fresh : list_any (nat_eq piece) (outstanding (progress_of m p.at.process)) ≡ false
-  device : is_for_device m.store p piece ≡ true
+pub record IsFresh (m : State) (p : Place) (piece : ℕ) : Type 0 where
+  pub within : piece < length (pieces_of_call p.call)
+  pub untold : is_told p piece ≡ false
+  pub fresh : list_any (nat_eq piece) (outstanding (progress_of m p.at.process)) ≡ false
+  pub device : is_for_device m.store p piece ≡ true
 
-is_fresh : (m : State) (p : Place) (piece : ℕ) → next_action m p ≡ Some (processors.Submits piece) → IsFresh m p piece
+pub is_fresh : (m : State) (p : Place) (piece : ℕ) → next_action m p ≡ Some (processors.Submits piece) → IsFresh m p piece
 is_fresh m p piece acting =
     let r = running_of m p in
     let submits = next_submits m.store (holder_of m) r piece (processor_submits m p piece acting) in

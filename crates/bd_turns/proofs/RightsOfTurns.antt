@@ -168,7 +168,7 @@ module _ (m next : State) (p : Place) (entry : Option Entry) (front : LowersFron
       cleared_less : (b : Bool) (state : RightState) → state ≡ states.On → right_turns b states.Cleared ≤ right_turns b state
       cleared_less true state on = let is : right_turns true state ≡ 20 = ap (right_turns true) on in omega arith
       cleared_less false state on = let is : right_turns false state ≡ 20 = ap (right_turns false) on in omega arith
-  none_rises apart (posts key stays posted unposted none) =
+  none_rises apart (posts key passed stays posted unposted none) =
       subst (λ (l : List Posted). NoneRises m.tables.rights m.posted next.tables.rights l test) (sym posted)
       (post_rises_not m.tables.rights next.tables.rights m.posted (record { key = key; by = p.at }) stays test)
   none_rises apart (moves post rest right swept is_front is revoked sets posted none) =
