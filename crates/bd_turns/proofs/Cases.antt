@@ -41,7 +41,7 @@ pub data Leads (m next : State) : Type 0 where
   acts : Effective m next → Leads m next
 
 -- the place of the running call of a process is of that process
-running_process : (m : State) (process : ℕ) (p : Place) → running m process ≡ Some p → p.at.process ≡ process
+pub running_process : (m : State) (process : ℕ) (p : Place) → running m process ≡ Some p → p.at.process ≡ process
 running_process m process p is = by (call_at m.script (running_at m process)) is
   where
     by : (call : Option _) → option_map (place_of m (running_at m process)) call ≡ Some p → p.at.process ≡ process
@@ -75,7 +75,7 @@ of_invalidation m p is (engines.Ends entry tables) acting = acts (ends p entry t
 of_invalidation m p is (engines.WaitsFor wait) acting = stays refl
 
 -- the running call of a process, at a place of that process
-running_there : (m : State) (process : ℕ) (p : Place) → running m process ≡ Some p → running m p.at.process ≡ Some p
+pub running_there : (m : State) (process : ℕ) (p : Place) → running m process ≡ Some p → running m p.at.process ≡ Some p
 running_there m process p is = ap (running m) (running_process m process p is) ∙ is
 
 processor_leads : (m : State) (process : ℕ) → Leads m (state_after m (processor_outcome m process))

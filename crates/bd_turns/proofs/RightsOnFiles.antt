@@ -34,7 +34,7 @@ LeavesSize s id (Unlinked at file) = id ≢ file
 LeavesSize s id e = Unit {0}
 
 -- the file is left as it was
-same_changed : (s : Store) (call : Call) (e : Entry) (id : ℕ) (f : Inode) → KeepsAll s call e → file_in s id ≡ Some f → LeavesSize s id e →
+pub same_changed : (s : Store) (call : Call) (e : Entry) (id : ℕ) (f : Inode) → KeepsAll s call e → file_in s id ≡ Some f → LeavesSize s id e →
     file_in (after_change s e) id ≡ file_in s id
 same_changed s call (Created at file name perms) id f keeps there leaves =
     inode_at-set_other s.files file id _ (not_made s.files file id f (keeps RightFile) there)

@@ -8,3 +8,5 @@ pub mod Sound
 pub mod Added
 pub mod Reached
 pub mod Laws
+pub mod Progress
+pub mod Rest

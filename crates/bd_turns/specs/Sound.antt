@@ -18,9 +18,12 @@ use Rattle.bd_entry.specs.declared.entry.Entry.TheVariants as entries
 use Rattle.bd_entry.specs.Actions.{has_begun, is_for_device, keys_on}
 use Rattle.bd_entry.specs.Calls.{Place, calls_of, entries_of, has_missed, is_answered, is_ended_by, is_finished, opened_fd, pieces_of_call}
 use Rattle.bd_entry.specs.NextEntries.{stays_allowed}
+use Rattle.bd_entry.specs.Promises.{is_whole_refusal}
 use Rattle.bd_entry.specs.Refusals.{file_of, first_refusal}
 use Rattle.bd_entry.specs.RulesOfRights.{HasRights, TheDescriptor}
 use Rattle.bd_entry.specs.Store.{Descriptor, Store, Valid, blocks_in, descriptor_at, has_part, limit_in, size_in}
+use Rattle.bd_file_table.specs.Fragments.{Cells}
+use Rattle.bd_lines.specs.declared.lines.TheConstants.{LINES}
 use Rattle.bd_tables.specs.declared.request.Request.{Request}
 use Rattle.bd_tables.specs.declared.state.Right.{Right}
 use Rattle.bd_tables.specs.declared.state.RightState.{RightState}
@@ -74,6 +77,18 @@ abbrev pub AreLookupsOf : State → Type 0
 AreLookupsOf m =
     (key : Key) (right : Right) (index : ℕ) → fin.get m.tables.rights key ≡ Some right →
     index / PART_BLOCKS ≡ key.part → lookup m.tables key index ≡ cell_of_block m.store right.file index
+
+-- the pair of each attached key is in use, with a cell for each block of a part
+abbrev pub AreWhole : State → Type 0
+AreWhole m =
+    (key : Key) (right : Right) → fin.get m.tables.rights key ≡ Some right →
+    (cells : Cells) × (fin.get m.tables.cells (pair_under key right) ≡ Some cells) × (length cells ≡ PART_BLOCKS)
+
+-- a drained key has a mark for each line of the cache
+abbrev pub AreMarked : State → Type 0
+AreMarked m =
+    (key : Key) (right : Right) (swept : List Bool) → fin.get m.tables.rights key ≡ Some right →
+    right.state ≡ states.Drained swept → length swept ≡ LINES
 
 -- the pairs in use are those that some attached key is about
 abbrev pub AreUsed : State → Type 0
@@ -257,6 +272,19 @@ AreUnended m =
     (process : ℕ) (p : Place) → running m process ≡ Some p →
     has_ended p.call p.before (progress_of m process) ≡ false
 
+-- no running call was refused as a whole: that ends it, as nothing is outstanding then
+abbrev pub AreUnrefused : State → Type 0
+AreUnrefused m =
+    (process : ℕ) (p : Place) → running m process ≡ Some p → list_any is_whole_refusal p.before ≡ false
+
+-- a running call that cleared a right holds the file of that descriptor, which stays open meanwhile
+abbrev pub AreClearsHeld : State → Type 0
+AreClearsHeld m =
+    (process : ℕ) (p : Place) (key : Key) → running m process ≡ Some p →
+    list_any (is_clear_at key) p.before ≡ true →
+    (d : Descriptor) × (descriptor_at m.store key.process key.fd ≡ Some d)
+    × ((progress_of m process).held ≡ Some d.file)
+
 -- ---- calls that have begun
 
 -- whether the refusals of the call stay away once it has begun
@@ -303,7 +331,8 @@ pub record HasProcesses (m : State) : Type 0 where
   pub ended : (process : ℕ) → (progress_of m process).ended ≤ length (calls_of m.script process)
 
 -- the script, the processes and the store. Entries are legal, and a legal entry keeps a store valid; a call ends once its
--- entries end it and none of its commands is left, and only then comes the next.
+-- entries end it and none of its commands is left, and only then comes the next. A call that is refused as a whole ends at
+-- once; one that cleared a right holds its file to the end, so nobody else closes that descriptor meanwhile.
 pub record AreCallsSound (m : State) : Type 0 where
   pub limits : IsWithinLimits m.script
   pub processes : HasProcesses m
@@ -312,6 +341,8 @@ pub record AreCallsSound (m : State) : Type 0 where
   pub commands : AreCommandsOfCalls m
   pub for_device : AreForDevice m
   pub unended : AreUnended m
+  pub unrefused : AreUnrefused m
+  pub clears_held : AreClearsHeld m
 
 -- the tables and the engines. An Attach, a Clear and a DetachDone change the store and the tables alike; an Attach hands
 -- in the cells of the file's blocks, a growth fills or raises them in the same turn, and no block of a file goes while a
@@ -322,7 +353,9 @@ pub record AreCallsSound (m : State) : Type 0 where
 pub record AreTablesSound (m : State) : Type 0 where
   pub rights : AreRightsOf m
   pub lookups : AreLookupsOf m
+  pub whole : AreWhole m
   pub used : AreUsed m
+  pub marked : AreMarked m
   pub tables : IsSound m.tables
   pub hands : (process : ℕ) (p : Place) (hand : InHand) → running m process ≡ Some p →
       (progress_of m process).hand ≡ Some hand → IsWalkFor m p hand

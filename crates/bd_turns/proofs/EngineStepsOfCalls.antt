@@ -1,0 +1,209 @@
+-- What a turn of a device engine does with the commands of its process.
+use Rattle.std.proofs.Common.{◌≡◌, ℕ, true, false, List, [], ◌∷◌, length, Option, None, Some, refl, sym, ap, ◌∙◌, subst}
+use Rattle.std.specs.Prelude.{nat_eq, All}
+use Rattle.std.specs.Option.{option_map}
+use Rattle.std.specs.FinMap as fin
+use Rattle.std.proofs.lemmas.Bool.{eq-eqb, or_left}
+use Rattle.std.proofs.lemmas.List.{append-nil, length-set}
+use Rattle.std.proofs.lemmas.Option.{none-some, same_Some}
+use Rattle.bd_base.specs.declared.journal.Found.{Found}
+use Rattle.bd_base.specs.declared.key.Cell.{Cell}
+use Rattle.bd_entry.specs.declared.entry.Entry.{Entry}
+use Rattle.bd_entry.specs.declared.entry.Entry.TheVariants as entries
+use Rattle.bd_entry.specs.Calls.{Place}
+use Rattle.bd_entry.specs.Promises.{is_access_or_miss}
+use Rattle.bd_entry.specs.Store.{Store}
+use Rattle.bd_entry.proofs.NextActs.{map_from, then_from}
+use Rattle.bd_lines.specs.Lines.{hit}
+use Rattle.bd_tables.specs.declared.request.Request.{Request}
+use Rattle.bd_tables.specs.State.{found_entering, found_of, found_reading, lookup, told_of, walk_at}
+use Rattle.bd_turns.proofs.DoneTurns.{grown}
+use Rattle.bd_turns.proofs.EngineCommands.{TellsAlone, given_all, given_back, given_commands, hand_of, phase_all, phase_commands, taken, taken_all, taken_commands, told_commands, with_phase}
+use Rattle.bd_turns.proofs.LegalMoves.{moves_by}
+use Rattle.bd_turns.specs.declared.turn.Row.TheVariants as rows
+use Rattle.bd_turns.specs.Engines.{Step, complete, engine_step, engine_with, enter, fill, go_on, look, miss, move, move_entry, move_entry_of, notes, phase_after, phase_looked, read_entry, request_of_piece, retire, take_command}
+use Rattle.bd_turns.specs.Sound.{AreCommands, has_told}
+use Rattle.bd_turns.specs.State.{InHand, Looking, Reading, Filling, Moving, Missing, Retiring, Completing, Phase, Progress, State, outstanding, progress_of}
+
+-- what the turn does: the oldest command is taken; the engine goes on with the one in its hand; it says what became of
+-- it; or it gives it back
+pub data StepDoes (p : Place) (progress : Progress) (step : Step) : Type 0 where
+  takes : (number : ℕ) (rest : List ℕ) (phase : Phase) → progress.hand ≡ None → progress.submitted ≡ number ∷ rest → has_told phase ≡ false →
+      step.progress ≡ taken progress number rest phase → step.entry ≡ None → StepDoes p progress step
+  goes_on : (number : ℕ) (phase next : Phase) → progress.hand ≡ Some (hand_of number phase) → has_told next ≡ has_told phase →
+      step.progress ≡ with_phase progress number next → step.entry ≡ None → StepDoes p progress step
+  tells : (number : ℕ) (phase : Phase) (e : Entry) → progress.hand ≡ Some (hand_of number phase) →
+      step.progress ≡ with_phase progress number Retiring → step.entry ≡ Some e → TellsAlone number e → is_access_or_miss e ≡ true →
+      StepDoes p progress step
+  gives : (number : ℕ) → progress.hand ≡ Some (hand_of number Completing) → step.progress ≡ given_back p progress number →
+      step.entry ≡ None → StepDoes p progress step
+
+-- and each engine keeps its walk
+pub record IsStep (m : State) (p : Place) (step : Step) : Type 0 where
+  pub does : StepDoes p (progress_of m p.at.process) step
+  pub walks : length step.tables.walks ≡ length m.tables.walks
+
+-- ---- phases
+
+entering_untold : (found : Option Found) → has_told (phase_after found Looking) ≡ false
+entering_untold None = refl
+entering_untold (Some found) = refl
+
+looking_untold : (cell : Option Cell) → has_told (phase_looked cell) ≡ false
+looking_untold None = refl
+looking_untold (Some cell) = refl
+
+reading_untold : (found : Option Found) → has_told (phase_after found Filling) ≡ false
+reading_untold None = refl
+reading_untold (Some found) = refl
+
+-- ---- entries
+
+access_alone : (s : Store) (p : Place) (number block : ℕ) (e : Entry) → move_entry_of s p number block ≡ Some e →
+    TellsAlone number e × (is_access_or_miss e ≡ true)
+access_alone s p number block e is =
+    let by = moves_by s p number block e is in
+    let access = move_entry s p number by.fd by.piece block by.d in
+    let alone : TellsAlone number access = record {
+      tells = or_left (nat_eq number number) false (eq-eqb number number refl);
+      alone = λ piece other. (other, refl);
+    } in
+    (subst (TellsAlone number) by.entry alone, ap is_access_or_miss (sym by.entry))
+
+miss_alone : (p : Place) (number : ℕ) (found : Found) → TellsAlone number (entries.Missed p.at number found)
+miss_alone p number found = record { tells = eq-eqb number number refl; alone = λ piece other. (refl, other) }
+
+-- ---- every turn
+
+module _ (m : State) (p : Place) (step : Step) where
+  -- how far the process is
+  abbrev so_far : Progress
+  so_far = progress_of m p.at.process
+
+  takes_one : (submitted : List ℕ) → so_far.hand ≡ None → so_far.submitted ≡ submitted →
+      take_command m.tables p so_far submitted ≡ Some step → IsStep m p step
+  takes_one [] free list is = absurd (none-some step is)
+  takes_one (number ∷ rest) free list is =
+      let found = map_from (enter m.tables so_far number rest) (request_of_piece p number) step is in
+      let request : Request = found.0 in
+      let phase = phase_after (found_entering (fin.get m.tables.rights request.key) request.write) Looking in
+      subst (IsStep m p) found.2
+      (record {
+        does =
+            StepDoes.takes number rest phase free list
+            (entering_untold (found_entering (fin.get m.tables.rights request.key) request.write)) refl refl;
+        walks = length-set m.tables.walks request.key.process _;
+      })
+
+  with_piece : (number : ℕ) (phase : Phase) → so_far.hand ≡ Some (hand_of number phase) → go_on m p so_far number phase ≡ Some step →
+      IsStep m p step
+  with_piece number Looking in_hand is =
+      let found = map_from (look m.tables so_far number) (request_of_piece p number) step is in
+      let request : Request = found.0 in
+      let cell = hit m.tables.lines request.key request.index request.hi in
+      subst (IsStep m p) found.2
+      (record {
+        does = StepDoes.goes_on number Looking (phase_looked cell) in_hand (looking_untold cell) refl refl;
+        walks = length-set m.tables.walks request.key.process _;
+      })
+  with_piece number Reading in_hand is =
+      let found = map_from (read_entry m.tables so_far number) (request_of_piece p number) step is in
+      let request : Request = found.0 in
+      let reads = found_reading request.hi (lookup m.tables request.key request.index) in
+      subst (IsStep m p) found.2
+      (record {
+        does = StepDoes.goes_on number Reading (phase_after reads Filling) in_hand (reading_untold reads) refl refl;
+        walks = length-set m.tables.walks request.key.process _;
+      })
+  with_piece number Filling in_hand is =
+      let told = told_of (walk_at m.tables.walks p.at.process) in
+      let by = then_from (λ request. option_map (fill m.tables so_far number request) told) (request_of_piece p number) step is in
+      let found = map_from (fill m.tables so_far number by.0) told step by.2 in
+      subst (IsStep m p) found.2 (record { does = StepDoes.goes_on number Filling Moving in_hand refl refl refl; walks = refl })
+  with_piece number Moving in_hand is =
+      let told = then_from (move m.store m.tables p so_far number) (told_of (walk_at m.tables.walks p.at.process)) step is in
+      let entry = map_from (notes rows.Move m.tables so_far number) (move_entry_of m.store p number told.0.block) step told.2 in
+      let alone = access_alone m.store p number told.0.block entry.0 entry.1 in
+      subst (IsStep m p) entry.2
+      (record { does = StepDoes.tells number Moving entry.0 in_hand refl refl alone.0 alone.1; walks = refl })
+  with_piece number Missing in_hand is =
+      let found = map_from (miss m.tables p so_far number) (found_of (walk_at m.tables.walks p.at.process)) step is in
+      subst (IsStep m p) found.2
+      (record {
+        does =
+            StepDoes.tells number Missing (entries.Missed p.at number found.0) in_hand refl refl (miss_alone p number found.0) refl;
+        walks = refl;
+      })
+  with_piece number Retiring in_hand is =
+      subst (IsStep m p) (same_Some (retire m.tables p so_far number) step is)
+      (record {
+        does = StepDoes.goes_on number Retiring Completing in_hand refl refl refl;
+        walks = length-set m.tables.walks p.at.process _;
+      })
+  with_piece number Completing in_hand is =
+      subst (IsStep m p) (same_Some (complete m.tables p so_far number) step is)
+      (record { does = StepDoes.gives number in_hand refl refl; walks = refl })
+
+  with_hand : (hand : Option InHand) → so_far.hand ≡ hand → engine_with m p so_far hand ≡ Some step → IsStep m p step
+  with_hand None free taking = takes_one so_far.submitted free refl taking
+  with_hand (Some hand) in_hand goes = with_piece hand.piece hand.phase in_hand goes
+
+  pub step_is : engine_step m p ≡ Some step → IsStep m p step
+  step_is is = with_hand so_far.hand refl is
+
+-- ---- what it leaves
+
+-- the place without a new entry
+pub at_none : (p : Place) (progress : Progress) → AreCommands p progress → AreCommands (grown p None) progress
+at_none p progress are =
+    subst (λ (before : List Entry). AreCommands (record p { before = before }) progress) (sym (append-nil p.before)) are
+
+pub step_commands : (p : Place) (progress : Progress) (step : Step) → StepDoes p progress step → AreCommands p progress →
+    AreCommands (grown p step.entry) step.progress
+step_commands p progress step (StepDoes.takes number rest phase free list silent after none) are =
+    subst (λ (o : Option Entry). AreCommands (grown p o) step.progress) (sym none)
+    (subst (AreCommands (grown p None)) (sym after)
+    (at_none p (taken progress number rest phase) (taken_commands p progress number rest phase free list silent are)))
+step_commands p progress step (StepDoes.goes_on number phase next in_hand same after none) are =
+    subst (λ (o : Option Entry). AreCommands (grown p o) step.progress) (sym none)
+    (subst (AreCommands (grown p None)) (sym after)
+    (at_none p (with_phase progress number next) (phase_commands p progress number phase next in_hand same are)))
+step_commands p progress step (StepDoes.tells number phase e in_hand after adds alone access) are =
+    subst (λ (o : Option Entry). AreCommands (grown p o) step.progress) (sym adds)
+    (subst (AreCommands (grown p (Some e))) (sym after) (told_commands p progress number phase e in_hand alone are))
+step_commands p progress step (StepDoes.gives number in_hand after none) are =
+    subst (λ (o : Option Entry). AreCommands (grown p o) step.progress) (sym none)
+    (subst (AreCommands (grown p None)) (sym after)
+    (at_none p (given_back p progress number) (given_commands p progress number in_hand are)))
+
+pub step_all : (P : ℕ → Type 0) (p : Place) (progress : Progress) (step : Step) → StepDoes p progress step → All P (outstanding progress) →
+    All P (outstanding step.progress)
+step_all P p progress step (StepDoes.takes number rest phase free list silent after none) all =
+    subst (λ (x : Progress). All P (outstanding x)) (sym after) (taken_all p progress number rest phase free list P all)
+step_all P p progress step (StepDoes.goes_on number phase next in_hand same after none) all =
+    subst (λ (x : Progress). All P (outstanding x)) (sym after) (phase_all p progress number phase next in_hand P all)
+step_all P p progress step (StepDoes.tells number phase e in_hand after adds alone access) all =
+    subst (λ (x : Progress). All P (outstanding x)) (sym after) (phase_all p progress number phase Retiring in_hand P all)
+step_all P p progress step (StepDoes.gives number in_hand after none) all =
+    subst (λ (x : Progress). All P (outstanding x)) (sym after) (given_all p progress number in_hand P all)
+
+pub step_held : (p : Place) (progress : Progress) (step : Step) → StepDoes p progress step → step.progress.held ≡ progress.held
+step_held p progress step (StepDoes.takes number rest phase free list silent after none) = ap (λ (x : Progress). x.held) after
+step_held p progress step (StepDoes.goes_on number phase next in_hand same after none) = ap (λ (x : Progress). x.held) after
+step_held p progress step (StepDoes.tells number phase e in_hand after adds alone access) = ap (λ (x : Progress). x.held) after
+step_held p progress step (StepDoes.gives number in_hand after none) = ap (λ (x : Progress). x.held) after
+
+pub step_ended : (p : Place) (progress : Progress) (step : Step) → StepDoes p progress step → step.progress.ended ≡ progress.ended
+step_ended p progress step (StepDoes.takes number rest phase free list silent after none) = ap (λ (x : Progress). x.ended) after
+step_ended p progress step (StepDoes.goes_on number phase next in_hand same after none) = ap (λ (x : Progress). x.ended) after
+step_ended p progress step (StepDoes.tells number phase e in_hand after adds alone access) = ap (λ (x : Progress). x.ended) after
+step_ended p progress step (StepDoes.gives number in_hand after none) = ap (λ (x : Progress). x.ended) after
+
+-- the entries of engines are accesses and misses
+pub step_access : (p : Place) (progress : Progress) (step : Step) (e : Entry) → StepDoes p progress step → step.entry ≡ Some e →
+    is_access_or_miss e ≡ true
+step_access p progress step e (StepDoes.takes number rest phase free list silent after none) adds = absurd (none-some e (sym none ∙ adds))
+step_access p progress step e (StepDoes.goes_on number phase next in_hand same after none) adds = absurd (none-some e (sym none ∙ adds))
+step_access p progress step e (StepDoes.tells number phase told in_hand after is alone access) adds =
+    ap is_access_or_miss (sym (same_Some told e (sym is ∙ adds))) ∙ access
+step_access p progress step e (StepDoes.gives number in_hand after none) adds = absurd (none-some e (sym none ∙ adds))
