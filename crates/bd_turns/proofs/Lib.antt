@@ -27,3 +27,4 @@ pub mod FindsOfWalks
 pub mod NotableSteps
 pub mod NotableKept
 pub mod TablesKept
+pub mod TablesAtBoot
