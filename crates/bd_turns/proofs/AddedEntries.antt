@@ -1,7 +1,7 @@
 -- What is known of the entries that turns add.
-use Rattle.std.proofs.Common.{◌≡◌, ◌≢◌, ◌⊎◌, inl, inr, ℕ, ◌<◌, ◌≤◌, IfSome, Bool, true, false, cond, List, [], ◌∷◌, ◌++◌, length, Option, None, Some, refl, sym, ap, ◌∙◌, subst, ⊎_elim, arith, ◌-◌}
+use Rattle.std.proofs.Common.{◌≡◌, inl, inr, ℕ, ◌≤◌, IfSome, Bool, true, false, cond, List, length, Option, None, Some, refl, sym, ap, ◌∙◌, subst, ⊎_elim, ◌-◌}
 use Rattle.std.specs.Prelude.{nat_lt, slice_get}
-use Rattle.std.specs.Option.{option_and_then, option_map, option_map_or, option_or}
+use Rattle.std.specs.Option.{option_and_then, option_map}
 use Rattle.std.proofs.lemmas.Bool.{both_ways, cases_lt, cond-true, false≢true, lt-ltb}
 use Rattle.std.proofs.lemmas.Option.{none-some, same_Some}
 use Rattle.bd_base.specs.declared.key.Key.{Key}
@@ -12,27 +12,25 @@ use Rattle.bd_base.specs.declared.script.Call.TheVariants.{Enter, Create, Trunca
 use Rattle.bd_base.specs.declared.volume.Inode.{Inode}
 use Rattle.bd_base.specs.declared.volume.Volume.{Volume}
 use Rattle.bd_base.specs.Inodes.{free_id}
-use Rattle.bd_base.specs.Pieces.{Piece}
 use Rattle.bd_entry.specs.declared.act.Act.{Act}
 use Rattle.bd_entry.specs.declared.act.Act.TheVariants as acts
 use Rattle.bd_entry.specs.declared.entry.Entry.{Entry}
 use Rattle.bd_entry.specs.declared.entry.Entry.TheVariants as entries
-use Rattle.bd_entry.specs.Actions.{is_none_of, Holders, Running, access_entry, created_entry, entry_of_act, is_to_shrink, kernel_entry, next_act, opened_entry, own_act, released_entry, truncate_to}
+use Rattle.bd_entry.specs.Actions.{is_none_of, created_entry, entry_of_act, is_to_shrink, kernel_entry, next_act, opened_entry, own_act, truncate_to}
 use Rattle.bd_entry.specs.Calls.{Place, at_of, call_at, entries_of, fd_of, piece_of_call}
-use Rattle.bd_entry.specs.Laws.{IsNextOf}
 use Rattle.bd_entry.specs.Refusals.{descriptor_of, file_of, growth_reason_of, next_size}
-use Rattle.bd_entry.specs.Rules.{EntryRule, FitsCall, FitsScript, FitsStore, WithinLimit, place_in}
+use Rattle.bd_entry.specs.Rules.{EntryRule, FitsCall, FitsStore, place_in}
 use Rattle.bd_entry.specs.RulesOfCalls.{IsOfCall}
-use Rattle.bd_entry.specs.Store.{Descriptor, Store, blocks_in, descriptor_at, size_in, work_of}
-use Rattle.bd_entry.proofs.NextActs.{IsOwn, IsRefusedFirst, map_from, map_or_from, next_cases, or_from_either, then_from}
+use Rattle.bd_entry.specs.Store.{Store, blocks_in, size_in}
+use Rattle.bd_entry.proofs.NextActs.{map_from, map_or_from, next_cases, then_from}
 use Rattle.bd_entry.proofs.NextFiles.{cond_from}
 use Rattle.bd_turns.specs.declared.turn.Row.{Row}
 use Rattle.bd_turns.specs.declared.turn.Wait.TheVariants as waits
 use Rattle.bd_turns.specs.Added.{IsAdded}
 use Rattle.bd_turns.specs.Processors as processors
 use Rattle.bd_turns.specs.Processors.{Action, action_for, add_entry, clear, is_on, next_action, poll, post, revocation, row_of_entry, running_of, uncleared, unposted}
-use Rattle.bd_turns.specs.State.{Progress, State, holder_of, outstanding, progress_of, running}
-use Rattle.bd_turns.proofs.HandFrames.{IsPlaceOf, is_place}
+use Rattle.bd_turns.specs.State.{Progress, State, holder_of, outstanding, progress_of}
+use Rattle.bd_turns.proofs.HandFrames.{is_place}
 
 -- ---- the place of an added entry
 
@@ -132,7 +130,8 @@ adds_from m p row e acting =
     no_poll : (progress : Progress) → adds (poll progress) ≡ false
     no_poll progress = by_test (is_none_of progress.completed)
       where
-        by_test : (b : Bool) → adds (cond b (processors.WaitsFor (waits.Completion (processors.least_outstanding (outstanding progress)))) processors.Polls) ≡ false
+        by_test : (b : Bool) →
+            adds (cond b (processors.WaitsFor (waits.Completion (processors.least_outstanding (outstanding progress)))) processors.Polls) ≡ false
         by_test true = refl
         by_test false = refl
 
@@ -202,6 +201,7 @@ is_sized : Entry → Bool
 is_sized (entries.Sized at fd size) = true
 is_sized e = false
 
+-- the action is none of those of a truncation that is not at its end
 sized_last : Act → Type 0
 sized_last (acts.Release file) = ⊥
 sized_last (acts.Refuse piece reason) = ⊥

@@ -30,9 +30,11 @@ use Rattle.bd_tables.specs.declared.state.Walk.TheVariants as walks
 use Rattle.bd_tables.specs.Sound.{IsSound, granted_of}
 use Rattle.bd_tables.specs.State.{found_of, told_of, walk_at}
 use Rattle.bd_tables.proofs.KeptNew.{none_there}
+use Rattle.bd_turns.proofs.HoldsAtBoot.{holds_at_boot}
 use Rattle.bd_turns.proofs.KeptCommands.{no_commands}
 use Rattle.bd_turns.proofs.RunningPlaces.{runs_at}
 use Rattle.bd_turns.proofs.StayingDescriptors.{none_unended}
+use Rattle.bd_turns.proofs.TablesAtBoot.{tables_at_boot}
 use Rattle.bd_turns.specs.Processors.{running_of}
 use Rattle.bd_turns.specs.Reached.{BootIsReached}
 use Rattle.bd_turns.specs.Sound.{AreCallsSound, AreHoldsSound, AreTablesSound, is_clear, is_clear_at, is_release}
@@ -46,13 +48,6 @@ all_new [] process = refl
 all_new (p ∷ processes) zero = refl
 all_new (p ∷ processes) (suc process) = all_new processes process
 
-all_idle : (processes : List Process) (process : ℕ) →
-    let idle : Process → Walk = λ p. walks.Idle in
-    walk_at (map idle processes) process ≡ walks.Idle
-all_idle [] process = refl
-all_idle (p ∷ processes) zero = refl
-all_idle (p ∷ processes) (suc process) = all_idle processes process
-
 module _ (v : Volume) (script : Script) (sound : IsSoundVolume v) (limits : IsWithinLimits script) where
   -- the state before the first turn
   abbrev m : State
@@ -60,19 +55,6 @@ module _ (v : Volume) (script : Script) (sound : IsSoundVolume v) (limits : IsWi
 
   new : (process : ℕ) → progress_of m process ≡ new_progress
   new process = all_new script.processes process
-
-  idle : (process : ℕ) → walk_at m.tables.walks process ≡ walks.Idle
-  idle process = all_idle script.processes process
-
-  -- there is no right, no command and no hold
-  no_right : {A : Type 0} (key : Key) (right : Right) → fin.get m.tables.rights key ≡ Some right → A
-  no_right key right is = absurd (none-some right (sym (fin.get-empty key_cmp key) ∙ is))
-
-  no_hand : {A : Type 0} (process : ℕ) (hand : InHand) → (progress_of m process).hand ≡ Some hand → A
-  no_hand process hand is = absurd (none-some hand (sym (ap (λ (x : Progress). x.hand) (new process)) ∙ is))
-
-  none_held : {A : Type 0} (process file : ℕ) → (progress_of m process).held ≡ Some file → A
-  none_held process file is = absurd (none-some file (sym (ap (λ (x : Progress). x.held) (new process)) ∙ is))
 
   none_outstanding : (process : ℕ) → outstanding (progress_of m process) ≡ []
   none_outstanding process = ap outstanding (new process)
@@ -112,60 +94,12 @@ module _ (v : Volume) (script : Script) (sound : IsSoundVolume v) (limits : IsWi
     clears_held = λ process p key is some. none_any (is_clear_at key) process p is some;
   }
 
-  tables_new : IsSound m.tables
-  tables_new = record {
-    sixteen = length-replicate {A = Option Line} LINES None;
-    keys = λ key right is. no_right key right is;
-    granted = λ process request is. absurd (none-some request (sym (ap granted_of (idle process)) ∙ is));
-    held = λ process request completion is. absurd (none-some completion (ap told_of (sym (idle process) ∙ is)));
-    cached = λ c line is. absurd (none-some line (sym (none_there LINES c) ∙ is));
-  }
-
-  boot_tables : AreTablesSound m
-  boot_tables = record {
-    rights = record {
-      told = λ key right is. no_right key right is;
-      all = λ key d is attached. absurd (none-some d (sym (none_open_at_start v script key.process key.fd) ∙ is));
-    };
-    lookups = λ key right index is. no_right key right is;
-    used = λ pair is. absurd (false≢true (sym (ap is_some (fin.get-empty pair_cmp pair)) ∙ is));
-    tables = tables_new;
-    hands = λ process p hand is in_hand. no_hand process hand in_hand;
-    idle = λ process none. idle process;
-    notable = λ p hand request found is in_hand. no_hand p.at.process hand in_hand;
-    open_keys = λ process request found is. absurd (none-some found (ap found_of (sym (idle process) ∙ is)));
-  }
-
-  boot_holds : AreHoldsSound m
-  boot_holds = record {
-    posted = record {
-      differ = λ i j first second is. absurd (none-some first is);
-      by_running = λ number post is. absurd (none-some post is);
-      state_of = λ number post is. absurd (none-some post is);
-      drained = λ key right swept is. no_right key right is;
-    };
-    revoked = λ key right is. no_right key right is;
-    one_unposted = λ first second a b is. no_right first a is;
-    held_once = λ file first second is. absurd (false≢true (sym (ap (does_hold file) (new first)) ∙ is));
-    holds = λ process file is. none_held process file is;
-    begun_holding = λ process p is holds begun. absurd (begun (no_entry process p is));
-    allowed = λ process p is keeps begun.
-        let fresh : has_begun (running_of m p) ≡ false =
-        ap (λ (before : List Entry). not (is_none_of before && is_none_of (outstanding (progress_of m p.at.process)))) (no_entry process p is)
-        ∙ ap (λ (pieces : List ℕ). not (is_none_of pieces)) (none_outstanding p.at.process) in
-        absurd (false≢true (sym fresh ∙ begun));
-    truncating = λ process p fd size is call_is. record {
-      without_rights = λ some. none_any is_release process p is some;
-      lowers = λ some. none_any is_clear process p is some;
-    };
-  }
-
 pub boot_is_reached : BootIsReached
 boot_is_reached v script sound limits = record {
   history = record { sound = sound; limits = limits; legal = refl; in_order = tt };
   sound = record {
     calls = boot_calls v script sound limits;
-    tables_are = boot_tables v script sound limits;
-    holds_are = boot_holds v script sound limits;
+    tables_are = tables_at_boot v script;
+    holds_are = holds_at_boot (start_store v script) script;
   };
 }

@@ -1,16 +1,16 @@
 -- The cells of a file's blocks, and which an entry changes of a file on which a right is attached.
-use Rattle.std.proofs.Common.{◌≡◌, ◌≢◌, ◌⊎◌, inl, inr, ℕ, zero, suc, ◌+◌, ◌-◌, ◌*◌, ◌/◌, ◌%◌, ◌<◌, ◌≤◌, min, cond, Bool, true, false, List, [], ◌∷◌, ◌++◌, length, slice_set, Option, None, Some, IsSome, is_some, arith, refl, sym, ap, ◌∙◌, subst}
+use Rattle.std.proofs.Common.{◌≡◌, ◌≢◌, inl, inr, ℕ, zero, suc, ◌+◌, ◌-◌, ◌*◌, ◌/◌, ◌%◌, ◌<◌, ◌≤◌, min, true, false, List, [], ◌∷◌, ◌++◌, length, slice_set, Option, None, Some, IsSome, is_some, arith, refl, sym, ap, ◌∙◌, subst}
 use Rattle.std.specs.Prelude.{nat_lt, slice_get}
-use Rattle.std.specs.Option.{option_map, option_map_or, option_to_list}
-use Rattle.std.proofs.lemmas.Bool.{both_ways, cases_eq, cases_lt, cond-true, false≢true, lt-ltb}
+use Rattle.std.specs.Option.{option_map, option_map_or}
+use Rattle.std.proofs.lemmas.Bool.{both_ways, cases_eq, cases_lt, cond-true, lt-ltb}
 use Rattle.std.proofs.lemmas.List.{append-nil, length-append}
-use Rattle.std.proofs.lemmas.Option.{none-some, same_Some, slice_get_past, slice_get_within}
+use Rattle.std.proofs.lemmas.Option.{same_Some, slice_get_past}
 use Rattle.bd_base.specs.declared.key.Cell.{Cell}
 use Rattle.bd_base.specs.declared.limits.TheConstants.{BLOCK_SIZE}
 use Rattle.bd_base.specs.declared.journal.At.{At}
 use Rattle.bd_base.specs.declared.volume.Inode.{Inode}
 use Rattle.bd_base.specs.Files.{blocks_for, limit_of}
-use Rattle.bd_base.specs.Inodes.{blocks_of_slot, free_id, growth_block, grown_file, inode_at, without_last}
+use Rattle.bd_base.specs.Inodes.{growth_block, grown_file, inode_at}
 use Rattle.bd_base.proofs.FileLists.{inode_at-set_other, inode_at-set_same, inode_at-within}
 use Rattle.bd_base.proofs.Takes.{enough_grown, enough_within, full_before}
 use Rattle.bd_base.proofs.ValidFiles.{free_id-free}
@@ -20,11 +20,10 @@ use Rattle.bd_entry.specs.Calls.{Place}
 use Rattle.bd_entry.specs.Effects.{after_change, effect_of, with_size}
 use Rattle.bd_entry.specs.Refusals.{goal_of}
 use Rattle.bd_entry.specs.Rules.{EntryRule, FitsStore, NotRefused, RightBlock, RightFile, Rights, WithinLimit}
-use Rattle.bd_entry.specs.Store.{Descriptor, Store, Valid, descriptor_at, file_in, has_rights_on, limit_in, size_in}
+use Rattle.bd_entry.specs.Store.{Descriptor, Store, Valid, descriptor_at, file_in, has_rights_on, size_in}
 use Rattle.bd_entry.proofs.EffectsOnFiles.{effect_of-files}
 use Rattle.bd_entry.proofs.SoundVolumes.{GrowsTo, grows_to}
 use Rattle.bd_turns.specs.Sound.{cell_of_block}
-use Rattle.bd_turns.specs.Turns.{cell_in}
 
 -- ---- files on which rights are attached
 

@@ -1,20 +1,16 @@
 -- The cells of pairs as a file grows, and those that an attach hands in.
-use Rattle.std.proofs.Common.{◌≡◌, ◌≢◌, ◌⊎◌, inl, inr, ℕ, zero, suc, ◌+◌, ◌-◌, ◌*◌, ◌/◌, ◌%◌, ◌<◌, ◌≤◌, Bool, true, false, List, [], ◌∷◌, length, map, take, drop, Option, None, Some, is_some, arith, refl, sym, ap, ◌∙◌, subst, set, ⊎_elim}
+use Rattle.std.proofs.Common.{◌≡◌, ◌≢◌, ◌⊎◌, inl, inr, ℕ, zero, suc, ◌+◌, ◌-◌, ◌*◌, ◌/◌, ◌%◌, ◌<◌, Bool, true, false, List, [], ◌∷◌, length, take, drop, Option, None, Some, is_some, arith, refl, sym, ap, ◌∙◌, subst, ⊎_elim}
 use Rattle.std.specs.Prelude.{slice_get, slice_range, IfSome}
-use Rattle.std.specs.List.{range_with_len}
 use Rattle.std.specs.Option.{option_map}
 use Rattle.std.specs.FinMap as fin
-use Rattle.std.proofs.lemmas.Bool.{both_ways, cases_Bool, cases_eq, cases_lt}
-use Rattle.std.proofs.lemmas.List.{get_or-set_other, get_or-set_same, length-set}
+use Rattle.std.proofs.lemmas.Bool.{both_ways, cases_Bool, cases_eq}
 use Rattle.std.proofs.lemmas.List.FromFn.{get_or-map-range_with_len, length-map-range_with_len}
 use Rattle.std.proofs.lemmas.Option.{none-some, same_Some}
 use Rattle.bd_base.specs.declared.key.Cell.{Cell}
 use Rattle.bd_base.specs.declared.key.Key.{Key}
-use Rattle.bd_base.specs.declared.limits.TheConstants.{BLOCK_SIZE, PART_BLOCKS}
-use Rattle.bd_base.specs.declared.volume.Inode.{Inode}
-use Rattle.bd_base.specs.Inodes.{grown_file}
+use Rattle.bd_base.specs.declared.limits.TheConstants.{PART_BLOCKS}
 use Rattle.bd_base.specs.Keys.{Pair, pair_cmp_total, same_pair, same_pair-is}
-use Rattle.bd_entry.specs.Store.{Store, blocks_in, file_in, limit_in}
+use Rattle.bd_entry.specs.Store.{Store, blocks_in, file_in}
 use Rattle.bd_file_table.specs.Fragments.{Cells, cell_at, padded}
 use Rattle.bd_tables.specs.declared.state.Right.{Right}
 use Rattle.bd_tables.specs.Effects.{change}
@@ -22,8 +18,8 @@ use Rattle.bd_tables.specs.State.{CellMap, Rights, block_pair, pair_under}
 use Rattle.bd_tables.proofs.Maps.{get-change}
 use Rattle.bd_turns.specs.Sound.{cell_of_block}
 use Rattle.bd_turns.specs.Turns.{cell_in, cells_from, cells_of_part}
-use Rattle.bd_turns.proofs.CellsOfFiles.{Grown, Grows, by_block, in_block, cell_absent, cell_of_slot, cell_there, cells_by_slot}
-use Rattle.bd_turns.proofs.CellsOfPairs.{AreCells, HasCells, IsUsed, cells_of_used, has_cells_in, tied_pair}
+use Rattle.bd_turns.proofs.CellsOfFiles.{cells_by_slot}
+use Rattle.bd_turns.proofs.CellsOfPairs.{AreCells, HasCells, cells_of_used, tied_pair}
 
 -- ---- a growth
 

@@ -1,26 +1,23 @@
 -- The cells of the pairs in use: those of the file's blocks.
-use Rattle.std.proofs.Common.{◌≡◌, ◌≢◌, ◌⊎◌, inl, inr, ℕ, zero, suc, ◌+◌, ◌*◌, ◌/◌, ◌%◌, ◌<◌, ◌≤◌, cond, Bool, true, false, nat_eq, List, [], ◌∷◌, length, map, Option, None, Some, is_some, arith, refl, sym, ap, ◌∙◌, subst, set, ⊎_elim}
-use Rattle.std.specs.Prelude.{count_by, slice_get, slice_range, IfSome}
+use Rattle.std.proofs.Common.{◌≡◌, ◌≢◌, ◌⊎◌, inl, inr, ℕ, ◌*◌, ◌/◌, ◌%◌, ◌<◌, cond, Bool, true, false, nat_eq, List, [], ◌∷◌, length, map, Option, None, Some, is_some, arith, refl, sym, ap, ◌∙◌, subst, ⊎_elim}
+use Rattle.std.specs.Prelude.{count_by}
 use Rattle.std.specs.List.{range_with_len}
-use Rattle.std.specs.Option.{option_map}
 use Rattle.std.specs.Cmp.{tied_itself}
 use Rattle.std.specs.FinMap as fin
 use Rattle.std.specs.Ordering.{is_eq}
-use Rattle.std.proofs.lemmas.Bool.{both_ways, cases_Bool, cases_eq, cases_lt, cond-false, cond-true, eqb-false, eqb-true, false≢true}
-use Rattle.std.proofs.lemmas.List.{get_or-set_other, get_or-set_same, length-set}
+use Rattle.std.proofs.lemmas.Bool.{both_ways, cases_Bool, cond-false, eqb-false, eqb-true, false≢true}
 use Rattle.std.proofs.lemmas.List.Sums.{sum_by-cons}
 use Rattle.std.proofs.lemmas.Option.{none-some, same_Some}
 use Rattle.bd_base.specs.declared.key.Cell.{Cell}
 use Rattle.bd_base.specs.declared.key.Key.{Key}
 use Rattle.bd_base.specs.declared.limits.TheConstants.{DESCRIPTORS, PART_BLOCKS, PROCESSES}
-use Rattle.bd_base.specs.declared.volume.Inode.{Inode}
 use Rattle.bd_base.specs.Keys.{Pair, key_cmp_total, pair_cmp_total, same_key, same_key-is, same_pair, same_pair-is}
 use Rattle.bd_entry.specs.Store.{Store, file_in}
 use Rattle.bd_file_table.specs.Fragments.{Cells, cell_at, padded}
 use Rattle.bd_tables.specs.declared.state.Right.{Right}
-use Rattle.bd_tables.specs.Effects.{after_detach, attach_right, change, drop_unused, new_right}
+use Rattle.bd_tables.specs.Effects.{attach_right, change, drop_unused, new_right}
 use Rattle.bd_tables.specs.Sound.{IsKey}
-use Rattle.bd_tables.specs.State.{CellMap, Rights, block_pair, entry_in, is_about, key_of_part, lookup, lookup_under, pair_for, pair_under, users}
+use Rattle.bd_tables.specs.State.{CellMap, Rights, entry_in, is_about, key_of_part, lookup_under, pair_for, pair_under, users}
 use Rattle.bd_tables.proofs.Maps.{get-change, other_key, other_key-remove, same_key-insert, same_key-remove}
 use Rattle.bd_tables.proofs.Users.{user-counts}
 use Rattle.bd_turns.specs.Sound.{AreLookupsOf, AreUsed, AreWhole, cell_of_block}
@@ -270,7 +267,9 @@ cells_of_detach rights cells s key gone attached keys are = by (nat_eq (users af
           let none : users after pair ≡ 0 = eqb-true (users after pair) 0 unused in
           let some : 0 < users after p = user-counts after q right is (keys q right (was q right is)) in
           let other : same_pair p pair ≡ false = elim (cases_Bool (same_pair p pair)) [
-            | inl same ↦ absurd (let counts : 0 < users after pair = subst (λ x. 0 < users after x) (same_pair-is p pair same) some in omega (arith, counts, none))
+            | inl same ↦
+                absurd
+                (let counts : 0 < users after pair = subst (λ x. 0 < users after x) (same_pair-is p pair same) some in omega (arith, counts, none))
             | inr differs ↦ differs
           ] in
           record {

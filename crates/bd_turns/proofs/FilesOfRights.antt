@@ -1,9 +1,9 @@
 -- The files on which rights are attached, through each entry that a turn adds.
-use Rattle.std.proofs.Common.{◌≡◌, ◌≢◌, ◌⊎◌, inl, inr, ℕ, ◌<◌, ◌≤◌, Bool, true, false, List, [], ◌∷◌, Option, None, Some, IsSome, refl, sym, ap, ◌∙◌, subst, arith}
+use Rattle.std.proofs.Common.{◌≡◌, ◌≢◌, ℕ, ◌≤◌, true, [], Option, None, Some, IsSome, refl, sym, ap, ◌∙◌, subst}
 use Rattle.std.specs.Option.{option_and_then, option_map}
 use Rattle.std.specs.FinMap as fin
-use Rattle.std.proofs.lemmas.Bool.{both_ways, cases_eq}
-use Rattle.std.proofs.lemmas.Option.{none-some, same_Some}
+use Rattle.std.proofs.lemmas.Bool.{both_ways}
+use Rattle.std.proofs.lemmas.Option.{same_Some}
 use Rattle.bd_base.specs.declared.journal.At.{At}
 use Rattle.bd_base.specs.declared.key.Key.{Key}
 use Rattle.bd_base.specs.declared.script.Call.{Call}
@@ -11,9 +11,9 @@ use Rattle.bd_base.specs.declared.script.Call.TheVariants.{Truncate}
 use Rattle.bd_base.specs.declared.volume.Volume.{Volume}
 use Rattle.bd_entry.specs.declared.entry.Entry.{Entry}
 use Rattle.bd_entry.specs.declared.entry.Entry.TheVariants.{Extended, Sized}
-use Rattle.bd_entry.specs.Calls.{Place, at_of, fd_of}
+use Rattle.bd_entry.specs.Calls.{Place, fd_of}
 use Rattle.bd_entry.specs.Effects.{effect_of}
-use Rattle.bd_entry.specs.Refusals.{descriptor_of, file_of, file_of_call}
+use Rattle.bd_entry.specs.Refusals.{descriptor_of, file_of_call}
 use Rattle.bd_entry.specs.Rules.{WithinLimit}
 use Rattle.bd_entry.specs.RulesOfContents.{AsksForSize}
 use Rattle.bd_entry.specs.Store.{Descriptor, Store, Valid, descriptor_at, file_in, has_part, has_rights_on, size_in}

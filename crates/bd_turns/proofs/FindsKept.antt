@@ -1,29 +1,23 @@
 -- What a walk missed for may be noted still, after an entry of another process.
-use Rattle.std.proofs.Common.{◌≡◌, ◌≢◌, ◌⊎◌, inl, inr, ℕ, ◌+◌, ◌-◌, ◌*◌, ◌/◌, ◌<◌, ◌≤◌, min, Bool, true, false, List, [], ◌∷◌, ◌++◌, length, Option, None, Some, IsSome, arith, refl, sym, ap, ◌∙◌, subst, ⊎_elim}
-use Rattle.std.specs.Prelude.{nat_lt, slice_get}
-use Rattle.std.specs.Option.{option_and_then, option_map}
-use Rattle.std.proofs.lemmas.Bool.{both_ways, cases_eq, cases_lt, cond-false}
-use Rattle.std.proofs.lemmas.Option.{none-some, same_Some, slice_get_past, slice_get_within}
+use Rattle.std.proofs.Common.{◌≡◌, ◌≢◌, ◌⊎◌, inl, inr, ℕ, ◌+◌, ◌*◌, ◌≤◌, Bool, true, false, List, [], ◌∷◌, ◌++◌, Option, None, Some, arith, refl, sym, ap, ◌∙◌, subst, ⊎_elim}
+use Rattle.std.specs.Option.{option_map}
+use Rattle.std.proofs.lemmas.Bool.{both_ways, cases_eq}
 use Rattle.bd_base.specs.declared.journal.At.{At}
 use Rattle.bd_base.specs.declared.journal.Found.{Found}
 use Rattle.bd_base.specs.declared.journal.Found.TheVariants.{NoDirectory, NoRight, NoEntry, Beyond}
 use Rattle.bd_base.specs.declared.key.Key.{Key}
-use Rattle.bd_base.specs.declared.limits.TheConstants.{BLOCK_SIZE, PART_BLOCKS}
-use Rattle.bd_base.specs.declared.script.Call.{Call}
+use Rattle.bd_base.specs.declared.limits.TheConstants.{BLOCK_SIZE}
 use Rattle.bd_base.specs.Pieces.{Piece}
 use Rattle.bd_entry.specs.declared.entry.Entry.{Entry}
-use Rattle.bd_entry.specs.declared.entry.Entry.TheVariants.{Access, Attached, Cleared, Closed, Detached, Opened, Missed}
-use Rattle.bd_entry.specs.Calls.{Place, at_of, does_write, fd_of, fd_of_call, is_ended_by, piece_of_call}
+use Rattle.bd_entry.specs.declared.entry.Entry.TheVariants.{Attached, Cleared, Closed, Detached, Opened}
+use Rattle.bd_entry.specs.Calls.{Place, at_of, fd_of_call, is_ended_by}
 use Rattle.bd_entry.specs.Effects as effects
 use Rattle.bd_entry.specs.Effects.{after_change, after_telling, effect_of, new_descriptor, tells_size}
-use Rattle.bd_entry.specs.Refusals.{descriptor_of}
-use Rattle.bd_entry.specs.RulesOfRights.{HasRights, MayFind, MayMiss, MayWrite, Stands, ThePiece, part_of}
-use Rattle.bd_entry.specs.Store.{Descriptor, Store, blocks_in, descriptor_at, has_part, in_slot, limit_in, size_in, slots_of}
+use Rattle.bd_entry.specs.RulesOfRights.{MayMiss, MayWrite, Stands, part_of}
+use Rattle.bd_entry.specs.Store.{Descriptor, Store, descriptor_at, has_part, in_slot, limit_in, slots_of}
 use Rattle.bd_entry.proofs.DescriptorSteps.{after_call-cases, after_telling-cases, change-cases, slot-set_cases}
-use Rattle.bd_turns.proofs.HandFrames.{IsSameCall}
-use Rattle.bd_turns.proofs.PieceCalls.{fd_of_pieces}
 use Rattle.bd_turns.proofs.RightsFit.{SlotAfter, here, apart, joined_here, joined_other, key_at, left_here, left_other, slot_after}
-use Rattle.bd_turns.proofs.RightsSteps.{touches_rights, untouched_opens}
+use Rattle.bd_turns.proofs.RightsSteps.{untouched_opens}
 
 -- ---- one descriptor
 
@@ -130,14 +124,16 @@ changed_by_other s (Attached at f p) process fd part other =
 changed_by_other s (Cleared at owner f p) process fd part other = by (slot_after s owner f (effects.clear p) process fd)
   where
     by : SlotAfter s owner f (effects.clear p) process fd →
-        SlotKeeps (key_at process fd part) (Cleared at owner f p) (descriptor_at s process fd) (descriptor_at (after_change s (Cleared at owner f p)) process fd)
+        SlotKeeps (key_at process fd part) (Cleared at owner f p) (descriptor_at s process fd)
+        (descriptor_at (after_change s (Cleared at owner f p)) process fd)
     by (here of_owner at_fd is) =
         slot_changed (key_at process fd part) (Cleared at owner f p) (effects.clear p) (clear_keeps (key_at process fd part) (Cleared at owner f p) p) _ _ is
     by (apart differs is) = slot_itself (key_at process fd part) (Cleared at owner f p) _ _ is
 changed_by_other s (Detached at owner f p) process fd part other = by (slot_after s owner f (effects.detach p) process fd)
   where
     by : SlotAfter s owner f (effects.detach p) process fd →
-        SlotKeeps (key_at process fd part) (Detached at owner f p) (descriptor_at s process fd) (descriptor_at (after_change s (Detached at owner f p)) process fd)
+        SlotKeeps (key_at process fd part) (Detached at owner f p) (descriptor_at s process fd)
+        (descriptor_at (after_change s (Detached at owner f p)) process fd)
     by (here of_owner at_fd is) =
         slot_changed (key_at process fd part) (Detached at owner f p) (effects.detach p)
         (λ d. detach_keeps (key_at process fd part) at owner f p d of_owner at_fd) _ _ is
@@ -180,13 +176,13 @@ may_miss_still s t key e writes piece NoDirectory (Some d) (Some new) keeps part
     λ stands. may (subst (λ (n : ℕ). Stands n d) part (keeps.stands (subst (λ (n : ℕ). Stands n new) (sym part) stands)))
 may_miss_still s t key e writes piece NoRight (Some d) (Some new) keeps part stays limit may = (
   ap (λ (n : ℕ). has_part n new.attached) (sym part)
-  ∙ keeps.attached (stays (λ same. let no_way : ⊥ = cc in no_way)) (ap (λ (n : ℕ). has_part n d.attached) part ∙ may.0),
+      ∙ keeps.attached (stays (λ same. let no_way : ⊥ = cc in no_way)) (ap (λ (n : ℕ). has_part n d.attached) part ∙ may.0),
   may.1,
   keeps.mode ∙ may.2,
 )
 may_miss_still s t key e writes piece NoEntry (Some d) (Some new) keeps part stays limit may = (
   ap (λ (n : ℕ). has_part n new.attached) (sym part)
-  ∙ keeps.attached (stays (λ same. let no_way : ⊥ = cc in no_way)) (ap (λ (n : ℕ). has_part n d.attached) part ∙ may.0),
+      ∙ keeps.attached (stays (λ same. let no_way : ⊥ = cc in no_way)) (ap (λ (n : ℕ). has_part n d.attached) part ∙ may.0),
   subst (MayWrite writes) (sym keeps.mode) may.1,
   subst (λ (n : ℕ). n ≤ BLOCK_SIZE * piece.index) (sym keeps.known) may.2,
 )

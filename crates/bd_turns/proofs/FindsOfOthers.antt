@@ -1,34 +1,33 @@
 -- What a walk missed for may be noted still, at a later place of its call, after what another process added.
-use Rattle.std.proofs.Common.{◌≡◌, ◌≢◌, ◌⊎◌, inl, inr, ℕ, ◌+◌, ◌-◌, ◌*◌, ◌<◌, ◌≤◌, min, Bool, true, false, List, [], ◌∷◌, length, Option, None, Some, IsSome, arith, refl, sym, ap, ◌∙◌, subst, ⊎_elim}
-use Rattle.std.specs.Prelude.{nat_lt, slice_get}
+use Rattle.std.proofs.Common.{◌≡◌, ◌≢◌, inl, inr, ℕ, ◌-◌, ◌*◌, ◌<◌, ◌≤◌, min, Bool, true, List, [], length, Option, None, Some, arith, refl, sym, ap, ◌∙◌, subst}
+use Rattle.std.specs.Prelude.{nat_lt}
 use Rattle.std.specs.Option.{option_and_then}
 use Rattle.std.proofs.lemmas.Bool.{both_ways, cases_lt, cond-false, le-ltb}
-use Rattle.std.proofs.lemmas.Option.{none-some, same_Some, slice_get_within}
+use Rattle.std.proofs.lemmas.Option.{slice_get_within}
 use Rattle.bd_base.specs.declared.journal.At.{At}
 use Rattle.bd_base.specs.declared.journal.Found.{Found}
 use Rattle.bd_base.specs.declared.journal.Found.TheVariants.{NoDirectory}
-use Rattle.bd_base.specs.declared.limits.TheConstants.{BLOCK_SIZE, PART_BLOCKS}
+use Rattle.bd_base.specs.declared.limits.TheConstants.{BLOCK_SIZE}
 use Rattle.bd_base.specs.declared.script.Call.{Call}
 use Rattle.bd_base.specs.declared.volume.Inode.{Inode}
 use Rattle.bd_base.specs.declared.volume.Volume.{Volume}
 use Rattle.bd_base.specs.Files.{limit_of}
-use Rattle.bd_base.specs.Inodes.{blocks_of_slot, inode_at}
 use Rattle.bd_base.specs.Pieces.{Piece}
 use Rattle.bd_entry.specs.declared.entry.Entry.{Entry}
 use Rattle.bd_entry.specs.declared.entry.Entry.TheVariants.{Missed}
-use Rattle.bd_entry.specs.Calls.{Place, at_of, does_write, fd_of, fd_of_call, piece_of_call}
+use Rattle.bd_entry.specs.Calls.{Place, does_write, fd_of, fd_of_call, piece_of_call}
 use Rattle.bd_entry.specs.Effects.{after_change, effect_of}
 use Rattle.bd_entry.specs.Refusals.{descriptor_of}
 use Rattle.bd_entry.specs.Rules.{place_in}
-use Rattle.bd_entry.specs.RulesOfRights.{HasRights, MayMiss, ThePiece, part_of}
-use Rattle.bd_entry.specs.Store.{Descriptor, Store, Valid, blocks_in, descriptor_at, file_in, has_part, has_rights_on, limit_in, size_in}
+use Rattle.bd_entry.specs.RulesOfRights.{HasRights, MayMiss, part_of}
+use Rattle.bd_entry.specs.Store.{Descriptor, Store, Valid, blocks_in, descriptor_at, has_part, limit_in, size_in}
 use Rattle.bd_entry.proofs.Descriptors.{rights-on}
 use Rattle.bd_entry.proofs.EffectsOnFiles.{effect_of-files}
 use Rattle.bd_entry.proofs.StayingFiles.{FileStays, file_with_rights_stays}
 use Rattle.bd_turns.specs.Added.{IsAdded}
 use Rattle.bd_turns.specs.State.{State}
 use Rattle.bd_turns.proofs.CellsOfFiles.{limit_there, some_at}
-use Rattle.bd_turns.proofs.FindsKept.{Detaches, SlotKeeps, may_miss_still, slots_of_other}
+use Rattle.bd_turns.proofs.FindsKept.{Detaches, may_miss_still, slots_of_other}
 use Rattle.bd_turns.proofs.HandFrames.{IsSameCall}
 use Rattle.bd_turns.proofs.PieceCalls.{fd_of_pieces}
 use Rattle.bd_turns.proofs.RightsFit.{key_at}
@@ -36,7 +35,8 @@ use Rattle.bd_turns.proofs.RightsFit.{key_at}
 -- ---- limits of files with rights
 
 limit_none : (size : ℕ) (blocks : List ℕ) (index : ℕ) → length blocks ≤ index → limit_of size blocks index ≡ 0
-limit_none size blocks index past = cond-false (nat_lt index (length blocks)) (min BLOCK_SIZE (size - BLOCK_SIZE * index)) 0 (le-ltb index (length blocks) past)
+limit_none size blocks index past =
+    cond-false (nat_lt index (length blocks)) (min BLOCK_SIZE (size - BLOCK_SIZE * index)) 0 (le-ltb index (length blocks) past)
 
 -- a file that stays has no lower limit
 limit_stays : (s t : Store) (id index : ℕ) → FileStays s id t → limit_in s id index ≤ limit_in t id index
@@ -79,10 +79,12 @@ misses_still s t p after number found same still may =
     ap (λ (a : At). option_and_then (descriptor_at t a.process) (fd_of after)) (sym same.at)
     ∙ ap (option_and_then (descriptor_at t p.at.process)) fd_is in
     let after_writes : MayMiss t (does_write p.call) (option_and_then (descriptor_at t p.at.process) (fd_of p)) found piece =
-    by (fd_of p) refl piece may.1 may.2 in
-    (piece, piece_is,
-    subst (λ (slot : Option Descriptor). MayMiss t (does_write after.call) slot found piece) (sym descriptor)
-    (subst (λ (c : Call). MayMiss t (does_write c) (option_and_then (descriptor_at t p.at.process) (fd_of p)) found piece) same.call after_writes))
+    by (fd_of p) refl piece may.1 may.2 in (
+      piece,
+      piece_is,
+      subst (λ (slot : Option Descriptor). MayMiss t (does_write after.call) slot found piece) (sym descriptor)
+          (subst (λ (c : Call). MayMiss t (does_write c) (option_and_then (descriptor_at t p.at.process) (fd_of p)) found piece) same.call after_writes),
+    )
   where
     bare : (writes : Bool) (found : Found) (piece : Piece) → MayMiss s writes None found piece → MayMiss t writes None found piece
     bare writes NoDirectory piece may = may

@@ -1,30 +1,27 @@
 -- What a walk misses for as it enters its key or reads an entry may be noted.
-use Rattle.std.proofs.Common.{◌≡◌, ◌≢◌, ◌⊎◌, inl, inr, ℕ, ◌+◌, ◌-◌, ◌*◌, ◌/◌, ◌<◌, ◌≤◌, min, cond, nat_le, Bool, true, false, ◌&&◌, not, List, [], ◌∷◌, length, Option, None, Some, arith, refl, sym, ap, ◌∙◌, subst, ⊎_elim}
+use Rattle.std.proofs.Common.{◌≡◌, ◌≢◌, inl, inr, ℕ, ◌+◌, ◌-◌, ◌*◌, ◌<◌, ◌≤◌, min, cond, nat_le, Bool, true, false, ◌&&◌, not, [], length, Option, None, Some, arith, refl, sym, ap, ◌∙◌, subst}
 use Rattle.std.specs.Prelude.{slice_get}
 use Rattle.std.specs.List.{list_any}
 use Rattle.std.specs.Option.{option_map_or}
-use Rattle.std.specs.FinMap as fin
-use Rattle.std.proofs.lemmas.Bool.{both_ways, cases_Bool, cases_lt, false≢true, leb-false, not-true}
+use Rattle.std.proofs.lemmas.Bool.{both_ways, cases_lt, false≢true, leb-false}
 use Rattle.std.proofs.lemmas.Option.{none-some, same_Some, slice_get_within}
 use Rattle.bd_base.specs.declared.journal.Found.{Found}
 use Rattle.bd_base.specs.declared.journal.Found.TheVariants.{NoDirectory, NoRight, NoEntry, Beyond}
 use Rattle.bd_base.specs.declared.key.Cell.{Cell}
 use Rattle.bd_base.specs.declared.key.Key.{Key}
-use Rattle.bd_base.specs.declared.limits.TheConstants.{BLOCK_SIZE, PART_BLOCKS}
+use Rattle.bd_base.specs.declared.limits.TheConstants.{BLOCK_SIZE}
 use Rattle.bd_base.specs.declared.script.Mode.{Mode}
 use Rattle.bd_base.specs.declared.script.Mode.TheVariants as modes
 use Rattle.bd_base.specs.declared.volume.Inode.{Inode}
 use Rattle.bd_base.specs.Files.{blocks_for, limit_of}
 use Rattle.bd_base.specs.Inodes.{blocks_of_slot}
 use Rattle.bd_base.specs.Pieces.{Piece}
-use Rattle.bd_entry.specs.RulesOfRights.{MayFind, MayMiss, MayWrite, Stands, part_of}
+use Rattle.bd_entry.specs.RulesOfRights.{MayMiss, MayWrite, part_of}
 use Rattle.bd_entry.specs.Store.{Descriptor, Store, Valid, attaches_by, descriptor_at, file_in, has_part, limit_in, size_in, work_of}
 use Rattle.bd_entry.proofs.Slots.{some_of}
-use Rattle.bd_tables.specs.declared.request.Request.{Request}
 use Rattle.bd_tables.specs.declared.state.Right.{Right}
 use Rattle.bd_tables.specs.declared.state.RightState.{RightState}
 use Rattle.bd_tables.specs.declared.state.RightState.TheVariants as states
-use Rattle.bd_tables.specs.Sound.{Allows}
 use Rattle.bd_tables.specs.State.{found_entering, found_reading, found_under}
 use Rattle.bd_turns.specs.Sound.{IsRightOf, cell_of_block, is_revoked}
 use Rattle.bd_turns.specs.Turns.{may_write}

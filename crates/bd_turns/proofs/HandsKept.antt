@@ -1,8 +1,7 @@
 -- Engines with a command in hand walk for its request, and the others are idle, through turns that leave hands and walks.
-use Rattle.std.proofs.Common.{◌≡◌, ◌≢◌, ◌⊎◌, inl, inr, ℕ, Bool, true, false, List, [], ◌∷◌, ◌++◌, Option, None, Some, refl, sym, ap, ◌∙◌, subst, ⊎_elim}
+use Rattle.std.proofs.Common.{◌≡◌, inl, inr, ℕ, List, [], ◌∷◌, ◌++◌, Option, None, Some, refl, sym, ap, ◌∙◌}
 use Rattle.std.specs.Prelude.{slice_index_or}
 use Rattle.std.specs.Option.{option_and_then, option_map, option_map_or}
-use Rattle.std.proofs.lemmas.Option.{none-some, same_Some}
 use Rattle.bd_base.specs.declared.journal.At.{At}
 use Rattle.bd_base.specs.declared.script.Call.{Call}
 use Rattle.bd_base.specs.Pieces.{Piece}
@@ -13,17 +12,16 @@ use Rattle.bd_entry.specs.Refusals.{file_of}
 use Rattle.bd_entry.specs.Store.{Descriptor, Store, descriptor_at}
 use Rattle.bd_tables.specs.declared.request.Request.{Request}
 use Rattle.bd_tables.specs.declared.state.Walk.{Walk}
-use Rattle.bd_tables.specs.declared.state.Walk.TheVariants.{Idle, Entered, Refused, Translated}
 use Rattle.bd_tables.specs.State.{TableState, walk_at}
 use Rattle.bd_turns.specs.declared.turn.Row.{Row}
 use Rattle.bd_turns.specs.declared.turn.Row.TheVariants as rows
 use Rattle.bd_turns.specs.Engines.{request_for, request_of_piece}
 use Rattle.bd_turns.specs.Sound.{IsIdleWithout, IsWalkAt, IsWalkFor}
 use Rattle.bd_turns.specs.State.{InHand, Phase, Looking, Reading, Filling, Moving, Missing, Retiring, Completing, Posted, Progress, State, new_progress, progress_of, running, with_progress}
-use Rattle.bd_turns.specs.Turns.{after_adding, after_effect, after_polling, after_posting, after_row, after_submitting, attached_tables, grown_tables, tables_after, with_entry, with_hold}
-use Rattle.bd_turns.proofs.HandFrames.{IsSameCall, ended_after_effect, hands_after_effect, is_place, progress_kept, runs_still}
+use Rattle.bd_turns.specs.Turns.{after_adding, after_effect, after_polling, after_posting, after_submitting, attached_tables, grown_tables, tables_after, with_entry, with_hold}
+use Rattle.bd_turns.proofs.HandFrames.{IsSameCall, ended_after_effect, hands_after_effect, progress_kept, runs_still}
 use Rattle.bd_turns.proofs.PieceCalls.{fd_of_pieces}
-use Rattle.bd_turns.proofs.TablesOfSteps.{IsRequest, is_request}
+use Rattle.bd_turns.proofs.TablesOfSteps.{is_request}
 
 -- ---- turns that leave hands and walks
 

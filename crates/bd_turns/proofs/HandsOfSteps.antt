@@ -1,8 +1,8 @@
 -- Engines with a command in hand walk for its request, and the others are idle, through each step of a device engine.
-use Rattle.std.proofs.Common.{◌≡◌, ◌≢◌, ◌⊎◌, inl, inr, ℕ, ◌<◌, nat_le, cond, Bool, true, false, List, [], ◌∷◌, length, set, Option, None, Some, refl, sym, ap, ◌∙◌, subst, ⊎_elim}
+use Rattle.std.proofs.Common.{◌≡◌, ◌≢◌, inl, inr, ℕ, ◌<◌, nat_le, cond, Bool, true, false, List, length, set, Option, None, Some, refl, sym, ap, ◌∙◌, subst}
 use Rattle.std.specs.Prelude.{slice_index_or}
 use Rattle.std.specs.FinMap as fin
-use Rattle.std.proofs.lemmas.Bool.{cases_eq, false≢true}
+use Rattle.std.proofs.lemmas.Bool.{cases_eq}
 use Rattle.std.proofs.lemmas.List.{get_or-set_other, get_or-set_same}
 use Rattle.std.proofs.lemmas.Option.{none-some, same_Some}
 use Rattle.bd_base.specs.declared.journal.Found.{Found}
@@ -12,21 +12,20 @@ use Rattle.bd_base.specs.declared.journal.At.{At}
 use Rattle.bd_entry.specs.declared.entry.Entry.{Entry}
 use Rattle.bd_entry.specs.Calls.{Place}
 use Rattle.bd_lines.specs.Lines.{hit}
-use Rattle.bd_tables.specs.declared.request.Completion.{Completion}
 use Rattle.bd_tables.specs.declared.request.Request.{Request}
 use Rattle.bd_tables.specs.declared.state.Walk.{Walk}
-use Rattle.bd_tables.specs.declared.state.Walk.TheVariants.{Idle, Entered, Refused, Translated}
+use Rattle.bd_tables.specs.declared.state.Walk.TheVariants.{Idle, Refused, Translated}
 use Rattle.bd_tables.specs.Effects.{entered_walk, looked_walk, read_walk}
 use Rattle.bd_tables.specs.State.{TableState, completion_of, found_entering, found_reading, lookup, walk_at}
-use Rattle.bd_turns.specs.Engines.{Step, engine_step, phase_after, phase_looked, request_of_piece}
+use Rattle.bd_turns.specs.Engines.{Step, phase_after, phase_looked, request_of_piece}
 use Rattle.bd_turns.specs.Sound.{IsIdleWithout, IsWalkAt, IsWalkFor}
-use Rattle.bd_turns.specs.State.{InHand, Phase, Looking, Reading, Filling, Moving, Missing, Retiring, Completing, Progress, State, new_progress, progress_of, running, with_progress}
-use Rattle.bd_turns.specs.Turns.{after_effect, after_step, with_entry_if_any}
+use Rattle.bd_turns.specs.State.{InHand, Phase, Looking, Filling, Moving, Missing, Retiring, Completing, Progress, State, new_progress, progress_of, running, with_progress}
+use Rattle.bd_turns.specs.Turns.{after_step, with_entry_if_any}
 use Rattle.bd_turns.proofs.Cases.{running_process}
 use Rattle.bd_turns.proofs.EngineStepsOfTables.{IsStep, enters, looks, reads, fills, moves, misses, retires, completes}
-use Rattle.bd_turns.proofs.HandFrames.{IsSameCall, ended_after_effect, hands_after_effect, progress_here, progress_kept, progress_other, runs_still}
+use Rattle.bd_turns.proofs.HandFrames.{IsSameCall, ended_after_effect, hands_after_effect, progress_here, progress_other, runs_still}
 use Rattle.bd_turns.proofs.HandsKept.{AreWalking, same_request_of, walk_at_same, walks_still}
-use Rattle.bd_turns.proofs.TablesOfSteps.{IsRequest, is_request, request_process, walk_of}
+use Rattle.bd_turns.proofs.TablesOfSteps.{request_process, walk_of}
 
 -- ---- walks
 
@@ -70,7 +69,8 @@ read_at request (Some cell) tables process is = by (nat_le request.hi cell.limit
     by false is = (Beyond cell.limit, is)
 
 -- of a step that goes on with this piece
-goes_on : (m : State) (p : Place) (tables : TableState) (progress : Progress) (number : ℕ) (phase : Phase) (entry : Option Entry) (row : _) (request : Request) →
+goes_on : (m : State) (p : Place) (tables : TableState) (progress : Progress) (number : ℕ) (phase : Phase) (entry : Option Entry) (row : _)
+    (request : Request) →
     let step : Step = record {
       row = row;
       tables = tables;
@@ -126,7 +126,8 @@ steps_hand m p step (reads hand request in_hand phase of_piece is) within hands 
     refl)
 steps_hand m p step (fills hand request completion in_hand phase of_piece told is) within hands =
     subst (StepsHand m p) (sym is)
-    (goes_on m p _ (progress_of m p.at.process) hand.piece Moving None _ request of_piece (walk_of m p hand Filling request (hands hand in_hand) phase of_piece)
+    (goes_on m p _ (progress_of m p.at.process) hand.piece Moving None _ request of_piece
+    (walk_of m p hand Filling request (hands hand in_hand) phase of_piece)
     (λ q other. refl) refl)
 steps_hand m p step (moves hand completion entry in_hand phase told entry_is is) within hands =
     let old = old_walk m p hand Moving (hands hand in_hand) phase in

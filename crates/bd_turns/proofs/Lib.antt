@@ -55,7 +55,6 @@ pub mod Sums
 pub mod SpentTurns
 pub mod EffectiveOutcomes
 pub mod RevocationTurns
-pub mod KeepsWithin
 pub mod GrowthTurns
 pub mod StayingDescriptors
 pub mod KeptCalls
@@ -98,3 +97,4 @@ pub mod NotableKept
 pub mod TablesKept
 pub mod EngineStepsOfTables
 pub mod PieceSteps
+pub mod TablesAtBoot

@@ -1,11 +1,10 @@
 -- What walks missed for may be noted still, after each turn.
-use Rattle.std.proofs.Common.{◌≡◌, ◌≢◌, ◌⊎◌, inl, inr, ℕ, ◌<◌, Bool, true, false, List, [], ◌∷◌, length, Option, None, Some, refl, sym, ap, ◌∙◌, subst, ⊎_elim}
+use Rattle.std.proofs.Common.{◌≡◌, ◌≢◌, inl, inr, ℕ, true, false, List, Some, refl, sym, ap, ◌∙◌, subst}
 use Rattle.std.specs.FinMap as fin
-use Rattle.std.proofs.lemmas.Bool.{both_ways, cases_eq, false≢true}
-use Rattle.std.proofs.lemmas.Option.{none-some, same_Some}
+use Rattle.std.proofs.lemmas.Bool.{both_ways, cases_eq}
+use Rattle.std.proofs.lemmas.Option.{same_Some}
 use Rattle.bd_base.specs.declared.journal.At.{At}
 use Rattle.bd_base.specs.declared.journal.Found.{Found}
-use Rattle.bd_base.specs.declared.journal.Found.TheVariants.{NoDirectory}
 use Rattle.bd_base.specs.declared.key.Key.{Key}
 use Rattle.bd_base.specs.declared.volume.Volume.{Volume}
 use Rattle.bd_base.specs.Pieces.{Piece}
@@ -22,12 +21,10 @@ use Rattle.bd_tables.specs.declared.state.Walk.TheVariants.{Refused}
 use Rattle.bd_tables.specs.Sound.{IsOpen, OnRight}
 use Rattle.bd_tables.specs.State.{walk_at}
 use Rattle.bd_turns.specs.Added.{EntriesAreNext, IsAdded, by_engine}
-use Rattle.bd_turns.specs.Engines.{Step, engine_step, request_for, request_of_piece}
+use Rattle.bd_turns.specs.Engines.{Step, engine_step}
 use Rattle.bd_turns.specs.Sound.{IsWalkFor, MayNote}
 use Rattle.bd_turns.specs.State.{InHand, Missing, State, progress_of, running}
 use Rattle.bd_turns.specs.Turns.{after_step}
-use Rattle.bd_turns.proofs.AddedEntries.{is_detach}
-use Rattle.bd_turns.proofs.Cases.{running_process}
 use Rattle.bd_turns.proofs.EngineStepsOfTables.{IsStep, enters, looks, reads, fills, moves, misses, retires, completes}
 use Rattle.bd_turns.proofs.FindsKept.{Detaches}
 use Rattle.bd_turns.proofs.FindsOfOthers.{misses_after_other, misses_same}
@@ -39,7 +36,7 @@ use Rattle.bd_turns.proofs.RightsFit.{key_at}
 use Rattle.bd_turns.proofs.RightsSteps.{touches_rights}
 use Rattle.bd_turns.proofs.TableParts.{AreOpen}
 use Rattle.bd_turns.proofs.TablesOfEngines.{same_request}
-use Rattle.bd_turns.proofs.TablesOfSteps.{IsPlain, IsRequest, is_request, move_is_plain, walk_of}
+use Rattle.bd_turns.proofs.TablesOfSteps.{is_request, move_is_plain, walk_of}
 
 -- ---- before the turn
 

@@ -1,42 +1,35 @@
 -- What a walk was just refused for may be noted: it entered its key, or read an entry, in this step.
-use Rattle.std.proofs.Common.{◌≡◌, ◌≢◌, ◌⊎◌, inl, inr, ℕ, ◌/◌, ◌<◌, ◌≤◌, nat_le, cond, Bool, true, false, List, [], ◌∷◌, length, set, Option, None, Some, refl, sym, ap, ◌∙◌, subst}
+use Rattle.std.proofs.Common.{◌≡◌, ℕ, ◌<◌, nat_le, cond, Bool, true, false, length, set, Option, None, Some, refl, sym, ap, ◌∙◌, subst}
 use Rattle.std.specs.List.{list_any}
 use Rattle.std.specs.Option.{option_and_then}
 use Rattle.std.specs.FinMap as fin
-use Rattle.std.proofs.lemmas.Bool.{both_ways, false≢true}
-use Rattle.std.proofs.lemmas.List.{get_or-set_same}
+use Rattle.std.proofs.lemmas.Bool.{false≢true}
 use Rattle.std.proofs.lemmas.Option.{none-some, same_Some}
 use Rattle.bd_base.specs.declared.journal.Found.{Found}
 use Rattle.bd_base.specs.declared.journal.Found.TheVariants.{NoEntry, Beyond}
 use Rattle.bd_base.specs.declared.key.Cell.{Cell}
-use Rattle.bd_base.specs.declared.key.Key.{Key}
-use Rattle.bd_base.specs.declared.limits.TheConstants.{BLOCK_SIZE, PART_BLOCKS}
 use Rattle.bd_base.specs.declared.volume.Volume.{Volume}
 use Rattle.bd_base.specs.Pieces.{Piece}
 use Rattle.bd_base.specs.Scripts.{IsCall}
 use Rattle.bd_entry.specs.declared.entry.Entry.TheVariants.{Missed}
-use Rattle.bd_entry.specs.Calls.{Place, does_write, fd_of, piece_of_call}
-use Rattle.bd_entry.specs.Laws.{IsHistory}
-use Rattle.bd_entry.specs.Refusals.{descriptor_of}
-use Rattle.bd_entry.specs.RulesOfRights.{HasRights, MayMiss, part_of}
+use Rattle.bd_entry.specs.Calls.{Place, does_write, piece_of_call}
+use Rattle.bd_entry.specs.RulesOfRights.{HasRights, MayMiss}
 use Rattle.bd_entry.specs.Store.{Descriptor, Store, Valid, attaches_by, descriptor_at, work_of}
 use Rattle.bd_entry.proofs.CallPieces.{piece_of_call-in_block}
 use Rattle.bd_tables.specs.declared.request.Request.{Request}
 use Rattle.bd_tables.specs.declared.state.Right.{Right}
-use Rattle.bd_tables.specs.declared.state.Walk.{Walk}
-use Rattle.bd_tables.specs.declared.state.Walk.TheVariants.{Idle, Entered, Refused, Translated}
-use Rattle.bd_tables.specs.Effects.{entered_walk, looked_walk, read_walk}
+use Rattle.bd_tables.specs.declared.state.Walk.TheVariants.{Entered, Refused, Translated}
+use Rattle.bd_tables.specs.Effects.{entered_walk, read_walk}
 use Rattle.bd_tables.specs.Sound.{Allows, OnRight}
-use Rattle.bd_tables.specs.State.{TableState, completion_of, found_entering, found_reading, lookup, walk_at}
+use Rattle.bd_tables.specs.State.{completion_of, found_entering, found_reading, lookup, walk_at}
 use Rattle.bd_turns.specs.Engines.{Step, phase_looked, request_for, request_of_piece}
 use Rattle.bd_turns.specs.Sound.{AreLookupsOf, IsWalkFor, cell_of_block}
 use Rattle.bd_turns.specs.State.{InHand, Phase, Looking, Reading, Filling, Moving, Missing, Retiring, Completing, State, progress_of}
 use Rattle.bd_turns.specs.Turns.{after_step}
 use Rattle.bd_turns.proofs.EngineStepsOfTables.{IsStep, enters, looks, reads, fills, moves, misses, retires, completes}
-use Rattle.bd_turns.proofs.FilesOfRights.{OfRight, of_right}
-use Rattle.bd_turns.proofs.FindsOfWalks.{Reads, enter_finds, read_finds}
+use Rattle.bd_turns.proofs.FilesOfRights.{of_right}
+use Rattle.bd_turns.proofs.FindsOfWalks.{enter_finds, read_finds}
 use Rattle.bd_turns.proofs.HandsOfSteps.{walk_here}
-use Rattle.bd_turns.proofs.RightsFit.{AllFit, Fits, key_at}
 use Rattle.bd_turns.proofs.TablesOfEngines.{is_refused, same_found}
 use Rattle.bd_turns.proofs.TablesOfEntries.{AreTablesOf}
 use Rattle.bd_turns.proofs.TablesOfSteps.{IsRequest, allowed_at, is_request, request_process, walk_of}

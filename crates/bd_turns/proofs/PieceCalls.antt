@@ -1,27 +1,26 @@
 -- Calls with pieces: their descriptor rests on the call alone, and they attach no right, so that the sizes which their
 -- process knows are those of this time.
-use Rattle.std.proofs.Common.{◌≡◌, ◌≢◌, ◌⊎◌, inl, inr, ℕ, ◌<◌, ◌≤◌, Bool, true, false, List, [], ◌∷◌, ◌++◌, length, Option, None, Some, is_some, arith, refl, sym, ap, ◌∙◌, subst, ⊎_elim}
+use Rattle.std.proofs.Common.{◌≡◌, ◌≢◌, inl, inr, ℕ, ◌<◌, false, List, [], ◌∷◌, ◌++◌, length, Some, arith, refl, sym, ap, ◌∙◌, subst, ⊎_elim}
 use Rattle.std.specs.Prelude.{map, slice_index_or, suc, zero}
 use Rattle.std.specs.List.{list_any}
-use Rattle.std.proofs.lemmas.Bool.{both_ways, cases_Bool, cases_eq, cases_order, false_from_ne_true, false≢true}
-use Rattle.std.proofs.lemmas.Option.{none-some, same_Some, slice_get_within}
+use Rattle.std.proofs.lemmas.Bool.{both_ways, cases_Bool, cases_eq, cases_order, false_from_ne_true}
+use Rattle.std.proofs.lemmas.Option.{none-some, slice_get_within}
 use Rattle.bd_base.specs.declared.journal.At.{At}
 use Rattle.bd_base.specs.declared.script.Call.{Call}
-use Rattle.bd_base.specs.declared.script.Call.TheVariants.{Enter, Create, Read, Write, Truncate, Unlink, Size, Map, Close, RawRead, RawWrite}
-use Rattle.bd_base.specs.declared.script.How.TheVariants as hows
+use Rattle.bd_base.specs.declared.script.Call.TheVariants.{Read, Write, RawRead, RawWrite}
 use Rattle.bd_base.specs.declared.script.Process.{Process}
 use Rattle.bd_base.specs.declared.script.Script.{Script}
 use Rattle.bd_base.specs.declared.volume.Volume.{Volume}
 use Rattle.bd_base.specs.Pieces.{Piece}
 use Rattle.bd_entry.specs.declared.entry.Entry.{Entry}
-use Rattle.bd_entry.specs.Calls.{Place, at_of, call_at, entries_of, fd_of_call, is_ended_by, is_finished, piece_of_call, pieces_of_call}
+use Rattle.bd_entry.specs.Calls.{Place, at_of, entries_of, fd_of_call, is_ended_by, is_finished, piece_of_call, pieces_of_call}
 use Rattle.bd_entry.specs.Effects.{effect_of}
-use Rattle.bd_entry.specs.Laws.{AreOfCall, IsHistory, IsNextOf}
+use Rattle.bd_entry.specs.Laws.{IsHistory, IsNextOf}
 use Rattle.bd_entry.specs.Rules.{place_in}
 use Rattle.bd_entry.specs.RulesOfCalls.{IsNextCall}
 use Rattle.bd_entry.specs.Store.{Store, attaches_by, start_store, work_of}
 use Rattle.bd_entry.proofs.CallEntries.{attaches_by-can_attach, can_attach}
-use Rattle.bd_entry.proofs.CallOrder.{entries_of-other, is_finished-other, numbered, other_process, start_of}
+use Rattle.bd_entry.proofs.CallOrder.{is_finished-other, numbered, other_process, start_of}
 use Rattle.bd_entry.proofs.Histories.{history_holds}
 use Rattle.bd_entry.proofs.HistoryLaws.{history_leads, work_is_of_running_call}
 use Rattle.bd_entry.proofs.RunningCalls.{still_next, work-ended, work-other}
@@ -89,10 +88,11 @@ has_next v script journal s history =
           elim (cases_Bool (is_ended_by call (work_of s (at_of e).process ++ e ∷ []))) [
             | inl ended ↦
                 absurd (some (ap (work_of (effect_of s (place_in s call (at_of e)) e)) same ∙ work-ended s call e ended))
-            | inr goes_on ↦
-                ((at_of e).call,
-                subst (λ (n : ℕ). IsNextCall script (before ++ e ∷ []) (numbered n (at_of e).call)) (sym same)
-                (still_next v script before s call e next goes_on))
+            | inr goes_on ↦ (
+              (at_of e).call,
+              subst (λ (n : ℕ). IsNextCall script (before ++ e ∷ []) (numbered n (at_of e).call)) (sym same)
+                  (still_next v script before s call e next goes_on),
+            )
           ]
       | inr differ ↦
           let was = had process (λ none. some (work-other s call e process differ ∙ none)) in

@@ -1,27 +1,18 @@
 -- What entries a processor adds: none while an engine has a command of its call in hand, and no Detached.
-use Rattle.std.proofs.Common.{◌≡◌, ◌≢◌, ◌⊎◌, inl, inr, ℕ, ◌<◌, ◌≤◌, Bool, true, false, ◌&&◌, not, cond, List, [], ◌∷◌, ◌++◌, map, length, Option, None, Some, refl, sym, ap, ◌∙◌, subst, ⊎_elim, arith}
-use Rattle.std.specs.Prelude.{nat_lt, All}
-use Rattle.std.specs.Option.{option_and_then, option_map, option_map_or, option_or}
+use Rattle.std.proofs.Common.{◌≡◌, ℕ, ◌<◌, Bool, true, false, ◌&&◌, not, cond, length, Option, None, Some, refl, subst, arith}
+use Rattle.std.specs.Option.{option_map, option_or}
 use Rattle.std.specs.List.{find}
-use Rattle.std.specs.FinMap as fin
-use Rattle.std.proofs.lemmas.Bool.{both_ways, cases_lt, false≢true, lt-ltb}
-use Rattle.std.proofs.lemmas.Option.{none-some, same_Some}
-use Rattle.bd_base.specs.declared.key.Key.{Key}
-use Rattle.bd_base.specs.declared.limits.TheConstants.{POSTS}
+use Rattle.std.proofs.lemmas.Bool.{both_ways}
+use Rattle.std.proofs.lemmas.Option.{same_Some}
 use Rattle.bd_base.specs.declared.script.Call.{Call}
-use Rattle.bd_base.specs.declared.script.Call.TheVariants.{Enter, Create, Read, Write, Truncate, Unlink, Size, Map, Close, RawRead, RawWrite}
-use Rattle.bd_base.specs.declared.script.How.TheVariants as hows
-use Rattle.bd_base.specs.declared.volume.Inode.{Inode}
+use Rattle.bd_base.specs.declared.script.Call.TheVariants.{Read, Write, RawRead, RawWrite}
 use Rattle.bd_entry.specs.declared.act.Act.{Act}
 use Rattle.bd_entry.specs.declared.act.Act.TheVariants as acts
-use Rattle.bd_entry.specs.declared.entry.Entry.{Entry}
-use Rattle.bd_entry.specs.declared.entry.Entry.TheVariants as entries
-use Rattle.bd_entry.specs.Actions.{Holders, Running, before_beginning, entry_of_act, has_begun, is_none_of, is_untouched, is_for_device, kernel_part, keys_to_revoke, next_act, own_act, piece_numbers, revoke, submit_or_poll, access_entry, created_entry, opened_entry, released_entry, kernel_entry}
-use Rattle.bd_entry.specs.Calls.{Place, fd_of, piece_of_call, pieces_of_call}
-use Rattle.bd_entry.specs.Refusals.{descriptor_of, file_of, first_refusal}
-use Rattle.bd_entry.specs.Store.{Descriptor, Store, blocks_in}
-use Rattle.bd_entry.proofs.NextActs.{map_from, or_from_either, then_from}
-use Rattle.bd_turns.specs.declared.turn.Row.{Row}
+use Rattle.bd_entry.specs.Actions.{Holders, Running, before_beginning, is_none_of, is_untouched, is_for_device, kernel_part, keys_to_revoke, next_act, own_act, piece_numbers, revoke, submit_or_poll}
+use Rattle.bd_entry.specs.Calls.{Place, pieces_of_call}
+use Rattle.bd_entry.specs.Refusals.{first_refusal}
+use Rattle.bd_entry.specs.Store.{Store}
+use Rattle.bd_entry.proofs.NextActs.{then_from}
 use Rattle.bd_turns.specs.declared.turn.Wait.TheVariants as waits
 use Rattle.bd_turns.specs.Processors as processors
 use Rattle.bd_turns.specs.Processors.{Action, action_for, add_entry, clear, is_on, next_action, poll, post, revocation, row_of_entry, running_of, uncleared, unposted}
@@ -100,7 +91,8 @@ quiet_with_hand m p hand action is pieces acting =
     let first = before_beginning m.store (holder_of m) p (first_refusal m.store p.at.process p.call) in
     let own = option_or (revoke (keys_to_revoke m.store p p.call)) (own_act m.store (holder_of m) r p.call) in
     quiet_action m p found.0 action
-    (acts_on_commands m.store (holder_of m) r p.call found.0 pieces some (begun (is_none_of p.before) (is_none_of r.outstanding) some first own found.0 found.1))
+    (acts_on_commands m.store (holder_of m) r p.call found.0 pieces some
+    (begun (is_none_of p.before) (is_none_of r.outstanding) some first own found.0 found.1))
     found.2
   where
     begun : (a b : Bool) → b ≡ false → (first own : Option Act) (act : Act) → option_or (cond (not (a && b)) None first) own ≡ Some act →

@@ -1,25 +1,20 @@
 -- The rights of the tables key by key: each fits what the store has of its descriptor.
-use Rattle.std.proofs.Common.{◌≡◌, ◌≢◌, ◌⊎◌, inl, inr, ℕ, Bool, true, false, ◌||◌, ◌&&◌, not, cond, nat_eq, List, [], ◌∷◌, Option, None, Some, is_some, refl, sym, ap, ◌∙◌, subst, ⊎_elim}
+use Rattle.std.proofs.Common.{◌≡◌, ◌≢◌, inl, inr, ℕ, Bool, true, false, ◌||◌, not, cond, nat_eq, List, [], ◌∷◌, Option, None, Some, is_some, refl, sym, ap, ◌∙◌, subst, ⊎_elim}
 use Rattle.std.specs.Prelude.{nat_lt, IsSome}
 use Rattle.std.specs.Option.{option_map}
 use Rattle.std.specs.FinMap as fin
-use Rattle.std.specs.FinMap.{get-remove}
-use Rattle.std.proofs.lemmas.Bool.{both_ways, cases_Bool, cases_eq, cond_both, cond-false, cond-true, eq-eqb, eqb-true, false≢true, ne_eqb, not_from_false}
+use Rattle.std.proofs.lemmas.Bool.{both_ways, cases_Bool, cases_eq, cond_both, eq-eqb, false≢true, ne_eqb}
 use Rattle.std.proofs.lemmas.Map.Views.{any-filter_same}
 use Rattle.std.proofs.lemmas.Option.{none-some, same_Some}
 use Rattle.bd_base.specs.declared.key.Key.{Key}
-use Rattle.bd_base.specs.Keys.{key_cmp_total, same_key, same_key-is}
-use Rattle.bd_entry.specs.Effects as effects
-use Rattle.bd_entry.specs.Store.{Descriptor, Store, descriptor_at, has_part, with_descriptor, with_part, with_slot, without_part}
+use Rattle.bd_base.specs.Keys.{same_key, same_key-is}
+use Rattle.bd_entry.specs.Store.{Descriptor, Store, descriptor_at, has_part, with_descriptor, with_part, without_part}
 use Rattle.bd_entry.proofs.DescriptorSteps.{change-here, slot-set_cases}
 use Rattle.bd_entry.proofs.PartSets.{has_part-without_part}
 use Rattle.bd_tables.specs.declared.state.Right.{Right}
-use Rattle.bd_tables.specs.declared.state.RightState.{RightState}
-use Rattle.bd_tables.specs.declared.state.RightState.TheVariants as states
-use Rattle.bd_tables.specs.Effects.{attach_right, change, new_right, with_state}
+use Rattle.bd_tables.specs.Effects.{change}
 use Rattle.bd_tables.specs.State.{Rights}
-use Rattle.bd_tables.proofs.Maps.{get-change, other_key, same_key-insert, same_key-remove}
-use Rattle.bd_turns.specs.Sound.{AreRightsOf, IsRightOf, is_revoked}
+use Rattle.bd_turns.specs.Sound.{AreRightsOf, IsRightOf}
 use Rattle.bd_turns.specs.State.{State}
 use Rattle.bd_turns.specs.Turns.{may_write}
 
@@ -125,13 +120,6 @@ fits_alike key (Some right) (Some d) (Some new) alike fits = record {
   attached = alike.attached ∙ fits.attached;
   cleared = alike.cleared ∙ fits.cleared;
 }
-
--- all rights fit still where all slots are alike
-pub all_fit_alike : (rights : Rights) (s t : Store) →
-    ((part process fd : ℕ) → AreAlike part (descriptor_at s process fd) (descriptor_at t process fd)) → AllFit rights s → AllFit rights t
-all_fit_alike rights s t alike all key =
-    fits_alike key (fin.get rights key) (descriptor_at s key.process key.fd) (descriptor_at t key.process key.fd)
-    (alike key.part key.process key.fd) (all key)
 
 -- ---- parts that join and leave
 

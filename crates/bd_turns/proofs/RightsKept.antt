@@ -1,20 +1,19 @@
 -- Every turn keeps the rights of the tables and the attached rights of the store alike.
-use Rattle.std.proofs.Common.{◌≡◌, ◌≢◌, ◌⊎◌, inl, inr, ℕ, Bool, true, false, List, [], ◌∷◌, Option, None, Some, refl, sym, ap, ◌∙◌, subst}
+use Rattle.std.proofs.Common.{◌≡◌, ℕ, true, false, Option, None, Some, refl, sym, ap, ◌∙◌, subst}
 use Rattle.std.specs.Option.{option_map, option_map_or}
 use Rattle.std.specs.FinMap as fin
-use Rattle.std.proofs.lemmas.Bool.{both_ways, false≢true}
+use Rattle.std.proofs.lemmas.Bool.{both_ways}
 use Rattle.std.proofs.lemmas.Option.{none-some, same_Some}
 use Rattle.bd_base.specs.declared.journal.At.{At}
-use Rattle.bd_base.specs.declared.key.Key.{Key}
 use Rattle.bd_base.specs.declared.script.Mode.{Mode}
 use Rattle.bd_base.specs.declared.volume.Volume.{Volume}
 use Rattle.bd_entry.specs.declared.entry.Entry.{Entry}
-use Rattle.bd_entry.specs.declared.entry.Entry.TheVariants.{Access, Attached, Cleared, Closed, Detached, Extended, Missed, Opened}
-use Rattle.bd_entry.specs.Calls.{Place, at_of}
+use Rattle.bd_entry.specs.declared.entry.Entry.TheVariants.{Attached, Cleared, Closed, Detached, Extended, Opened}
+use Rattle.bd_entry.specs.Calls.{Place}
 use Rattle.bd_entry.specs.Effects as entry_effects
 use Rattle.bd_entry.specs.Effects.{after_change, effect_of, new_descriptor}
-use Rattle.bd_entry.specs.Rules.{EntryRule, IsOpen, Rights as RightsRule, place_in}
-use Rattle.bd_entry.specs.Store.{Descriptor, Store, descriptor_at, with_descriptor}
+use Rattle.bd_entry.specs.Rules.{IsOpen, Rights as RightsRule, place_in}
+use Rattle.bd_entry.specs.Store.{Descriptor, Store, descriptor_at}
 use Rattle.bd_entry.proofs.DescriptorSteps.{change-here, lowest_fd-free}
 use Rattle.bd_tables.specs.declared.state.Right.{Right}
 use Rattle.bd_tables.specs.declared.state.RightState.{RightState}
@@ -24,13 +23,12 @@ use Rattle.bd_tables.specs.Effects.{attach_right, none_swept, sweep_state}
 use Rattle.bd_tables.specs.State.{Rights, TableState}
 use Rattle.bd_turns.specs.declared.turn.Row.{Row}
 use Rattle.bd_turns.specs.Added.{IsAdded}
-use Rattle.bd_turns.specs.Engines.{Step, engine_step}
 use Rattle.bd_turns.specs.Processors as processors
 use Rattle.bd_turns.specs.Processors.{next_action}
 use Rattle.bd_turns.specs.Sound.{is_revoked}
-use Rattle.bd_turns.specs.State.{Posted, Progress, State, progress_of}
+use Rattle.bd_turns.specs.State.{State}
 use Rattle.bd_turns.specs.Turns.{attached_tables, grown_tables, may_write, tables_after}
-use Rattle.bd_turns.proofs.AddedEntries.{FromAction, added_keeps, added_place, adds_from, is_detach, processors_detach_nothing}
+use Rattle.bd_turns.proofs.AddedEntries.{added_keeps, adds_from, is_detach, processors_detach_nothing}
 use Rattle.bd_turns.proofs.EngineStepsOfTables.{IsChange, IsEnd, drains, sweeps}
 use Rattle.bd_turns.proofs.RightsFit.{AllFit, AreAlike, IsAlike, key_at}
 use Rattle.bd_turns.proofs.RightsSteps.{after_change-alike, all_fit_after, all_fit_attach, all_fit_clear, all_fit_detach, all_fit_slot, all_fit_states, all_fit_untouched, none_of_bare, none_of_empty, touches_rights}

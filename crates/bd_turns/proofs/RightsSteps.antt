@@ -1,27 +1,26 @@
 -- How rights and descriptors change together: by an attach, a clear, a detach, an open and a close.
-use Rattle.std.proofs.Common.{◌≡◌, ◌≢◌, ◌⊎◌, inl, inr, ℕ, Bool, true, false, List, [], ◌∷◌, ◌++◌, Option, None, Some, refl, sym, ap, ◌∙◌, subst, ⊎_elim}
+use Rattle.std.proofs.Common.{◌≡◌, ◌≢◌, inl, inr, ℕ, Bool, true, false, List, [], ◌∷◌, ◌++◌, Option, None, Some, refl, sym, ap, ◌∙◌, subst, ⊎_elim}
 use Rattle.std.specs.Option.{option_map}
 use Rattle.std.specs.FinMap as fin
 use Rattle.std.proofs.lemmas.Bool.{both_ways, cases_eq}
-use Rattle.std.proofs.lemmas.Option.{none-some, same_Some}
 use Rattle.bd_base.specs.declared.key.Key.{Key}
-use Rattle.bd_base.specs.Keys.{key_cmp_total, same_key, same_key-is}
+use Rattle.bd_base.specs.Keys.{key_cmp_total, same_key-is}
 use Rattle.bd_entry.specs.declared.entry.Entry.{Entry}
 use Rattle.bd_entry.specs.declared.entry.Entry.TheVariants.{Access, Attached, Cleared, Closed, Detached, Opened, Sized}
 use Rattle.bd_entry.specs.Calls.{Place, fd_of_call, is_ended_by}
 use Rattle.bd_entry.specs.Effects as effects
 use Rattle.bd_entry.specs.Effects.{after_call, after_change, after_telling, effect_of, tells_size, with_known_size, with_told_size}
 use Rattle.bd_entry.specs.Store.{Descriptor, Store, descriptor_at, has_part, in_slot, slots_of, with_descriptor, with_slot}
-use Rattle.bd_entry.proofs.DescriptorSteps.{access_opens, after_call-cases, after_telling-cases, lowest_fd-free, sized_opens, slot-set_cases}
+use Rattle.bd_entry.proofs.DescriptorSteps.{access_opens, after_call-cases, after_telling-cases, sized_opens, slot-set_cases}
 use Rattle.bd_tables.specs.declared.state.Right.{Right}
 use Rattle.bd_tables.specs.declared.state.RightState.{RightState}
 use Rattle.bd_tables.specs.declared.state.RightState.TheVariants as states
 use Rattle.bd_tables.specs.Effects.{attach_right, change, new_right, with_state}
 use Rattle.bd_tables.specs.State.{Rights}
 use Rattle.bd_tables.proofs.Maps.{get-change, other_key, other_key-change, other_key-remove, same_key-change, same_key-insert, same_key-remove}
-use Rattle.bd_turns.specs.Sound.{IsRightOf, is_revoked}
+use Rattle.bd_turns.specs.Sound.{is_revoked}
 use Rattle.bd_turns.specs.Turns.{may_write}
-use Rattle.bd_turns.proofs.RightsFit.{AllFit, AreAlike, Fits, IsAlike, SlotAfter, here, apart, alike_changed, alike_itself, alike_then, fits_alike, is_that, joined_here, joined_other, key_at, left_here, left_other, other_than, slot_after}
+use Rattle.bd_turns.proofs.RightsFit.{AllFit, AreAlike, Fits, SlotAfter, here, apart, alike_changed, alike_itself, alike_then, fits_alike, is_that, joined_here, joined_other, key_at, left_here, left_other, other_than, slot_after}
 
 -- ---- what is told and known
 

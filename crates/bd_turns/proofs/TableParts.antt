@@ -1,11 +1,11 @@
 -- What is kept of the tables beside the store: marks of sweeps, and keys in which refused engines are.
-use Rattle.std.proofs.Common.{◌≡◌, ◌≢◌, ◌⊎◌, inl, inr, ℕ, zero, suc, ◌+◌, ◌<◌, cond, Bool, true, false, not, List, [], ◌∷◌, length, position, replicate, set, Option, None, Some, is_some, arith, refl, sym, ap, ◌∙◌, subst, ⊎_elim}
+use Rattle.std.proofs.Common.{◌≡◌, ◌≢◌, inl, inr, ℕ, zero, suc, ◌+◌, ◌<◌, cond, Bool, true, false, not, List, [], ◌∷◌, length, position, replicate, set, None, Some, is_some, arith, refl, sym, ap, ◌∙◌, subst}
 use Rattle.std.specs.List.{list_any}
 use Rattle.bd_entry.proofs.Holders.{is_some-position}
 use Rattle.std.specs.FinMap as fin
 use Rattle.std.specs.Cmp.{tied_itself}
 use Rattle.std.specs.Ordering.{is_eq}
-use Rattle.std.proofs.lemmas.Bool.{both_ways, cases_Bool, cond-true, cond-false, false≢true}
+use Rattle.std.proofs.lemmas.Bool.{both_ways, cases_Bool, cond-true, false≢true}
 use Rattle.std.proofs.lemmas.List.{length-replicate, length-set}
 use Rattle.std.proofs.lemmas.List.Quantifiers.{position-Some}
 use Rattle.std.proofs.lemmas.List.Sums.{sum_by-cons}
@@ -22,9 +22,8 @@ use Rattle.bd_tables.specs.declared.state.RightState.TheVariants as states
 use Rattle.bd_tables.specs.declared.state.Walk.{Walk}
 use Rattle.bd_tables.specs.declared.state.Walk.TheVariants as walks
 use Rattle.bd_tables.specs.Effects.{all_swept, attach_right, change, new_right, none_swept, sweep_state}
-use Rattle.bd_tables.specs.Kernel.{IsAttachedIn, IsDrained, IsOn, IsSweptWhole}
 use Rattle.bd_tables.specs.Sound.{IsOpen, OnRight}
-use Rattle.bd_tables.specs.State.{Rights, TableState, engines_in, is_in, walk_at}
+use Rattle.bd_tables.specs.State.{Rights, engines_in, is_in, walk_at}
 use Rattle.bd_tables.proofs.Maps.{get-change, other_key, other_key-remove, same_key-insert, same_key-remove}
 
 -- ---- marks of sweeps
@@ -50,7 +49,8 @@ unfolding is_drained
 marks_attach rights key file write marks q right swept is drained = elim (cases_Bool (same_key q key)) [
   | inl same ↦
       let one : new_right file write ≡ right = same_Some (new_right file write) right
-      (sym (ap (fin.get (attach_right rights key file write)) (same_key-is q key same) ∙ same_key-insert key_cmp_total rights key (new_right file write)) ∙ is) in
+      (sym (ap (fin.get (attach_right rights key file write)) (same_key-is q key same)
+      ∙ same_key-insert key_cmp_total rights key (new_right file write)) ∙ is) in
       absurd (false≢true (ap is_drained (ap (λ (r : Right). r.state) one ∙ drained)))
   | inr other ↦ marks q right swept (sym (other_key key_cmp_total rights key (new_right file write) q other) ∙ is) drained
 ]

@@ -1,8 +1,8 @@
 -- Every turn of any actor keeps the tables and the engines sound.
-use Rattle.std.proofs.Common.{◌≡◌, ◌≢◌, ◌⊎◌, inl, inr, ℕ, ◌<◌, Bool, true, false, List, [], ◌∷◌, ◌++◌, length, drop, Option, None, Some, is_some, arith, refl, sym, ap, ◌∙◌, subst}
+use Rattle.std.proofs.Common.{◌≡◌, ℕ, ◌<◌, true, false, length, drop, Some, refl, sym, ap, ◌∙◌, subst}
 use Rattle.std.specs.FinMap as fin
-use Rattle.std.proofs.lemmas.Bool.{both_ways, false≢true}
-use Rattle.std.proofs.lemmas.Option.{none-some, same_Some}
+use Rattle.std.proofs.lemmas.Bool.{both_ways}
+use Rattle.std.proofs.lemmas.Option.{none-some}
 use Rattle.bd_base.specs.declared.journal.At.{At}
 use Rattle.bd_base.specs.declared.key.Key.{Key}
 use Rattle.bd_base.specs.declared.script.Call.{Call}
@@ -13,15 +13,13 @@ use Rattle.bd_entry.specs.declared.entry.Entry.{Entry}
 use Rattle.bd_entry.specs.declared.entry.Entry.TheVariants.{Detached}
 use Rattle.bd_entry.specs.Calls.{Place, is_made_by, piece_of_call}
 use Rattle.bd_entry.proofs.HistoryLaws.{is_call, process_there}
-use Rattle.bd_tables.specs.declared.state.Right.{Right}
-use Rattle.bd_tables.specs.declared.state.RightState.TheVariants as states
 use Rattle.bd_tables.specs.Sound.{IsOpen, OnRight}
 use Rattle.bd_tables.specs.State.{TableState}
 use Rattle.bd_turns.specs.Added.{EntriesAreNext, IsAdded, by_invalidation, by_processor}
 use Rattle.bd_turns.specs.declared.turn.Row.{Row}
 use Rattle.bd_turns.specs.Engines as engines
 use Rattle.bd_turns.specs.Processors as processors
-use Rattle.bd_turns.specs.Reached.{IsActor, IsReached, TurnsKeepTables}
+use Rattle.bd_turns.specs.Reached.{IsReached, TurnsKeepTables}
 use Rattle.bd_turns.specs.Sound.{AreTablesSound, IsIdleWithout, MayNote}
 use Rattle.bd_turns.specs.State.{InHand, Posted, State, progress_of, running}
 use Rattle.bd_turns.specs.Turns.{after_adding, after_effect, after_ending, after_polling, after_posting, after_step, after_submitting, after_turn, with_entry}

@@ -1,58 +1,42 @@
 -- The tables and the store through each turn of an engine.
-use Rattle.std.proofs.Common.{◌≡◌, ◌≢◌, ◌⊎◌, inl, inr, ℕ, ◌+◌, ◌/◌, ◌<◌, ◌≤◌, nat_le, cond, Bool, true, false, ◌&&◌, not, List, [], ◌∷◌, length, set, Option, None, Some, arith, refl, sym, ap, ◌∙◌, subst, ⊎_elim}
-use Rattle.std.specs.Option.{option_and_then, option_map}
+use Rattle.std.proofs.Common.{◌≡◌, ◌≢◌, ◌⊎◌, ℕ, nat_le, cond, Bool, true, false, List, set, Option, None, Some, refl, sym, ap, ◌∙◌, subst, ⊎_elim}
 use Rattle.std.specs.FinMap as fin
-use Rattle.std.proofs.lemmas.Bool.{both_ways, cases_Bool, false≢true}
-use Rattle.std.proofs.lemmas.Option.{none-some, same_Some}
-use Rattle.bd_base.specs.declared.journal.At.{At}
+use Rattle.std.proofs.lemmas.Bool.{false≢true}
+use Rattle.std.proofs.lemmas.Option.{same_Some}
 use Rattle.bd_base.specs.declared.journal.Found.{Found}
 use Rattle.bd_base.specs.declared.journal.Found.TheVariants.{NoDirectory, NoEntry, Beyond}
 use Rattle.bd_base.specs.declared.key.Cell.{Cell}
 use Rattle.bd_base.specs.declared.key.Key.{Key}
-use Rattle.bd_base.specs.declared.limits.TheConstants.{PART_BLOCKS}
 use Rattle.bd_base.specs.declared.volume.Volume.{Volume}
-use Rattle.bd_base.specs.Pieces.{Piece}
 use Rattle.bd_entry.specs.declared.entry.Entry.{Entry}
 use Rattle.bd_entry.specs.declared.entry.Entry.TheVariants as entries
-use Rattle.bd_entry.specs.Calls.{Place, does_write, fd_of, piece_of_call}
+use Rattle.bd_entry.specs.Calls.{Place}
 use Rattle.bd_entry.specs.Effects.{effect_of}
 use Rattle.bd_entry.specs.Rules.{place_in}
-use Rattle.bd_entry.specs.Store.{Descriptor, Store, Valid, descriptor_at}
+use Rattle.bd_entry.specs.Store.{Valid}
 use Rattle.bd_entry.proofs.DescriptorSteps.{index_or-set_cases}
-use Rattle.bd_entry.proofs.NextActs.{map_from, then_from}
-use Rattle.bd_lines.specs.Lines.{hit}
-use Rattle.bd_lines.specs.declared.lines.TheConstants.{LINES}
-use Rattle.bd_tables.specs.declared.request.Completion.{Completion}
 use Rattle.bd_tables.specs.declared.request.Request.{Request}
 use Rattle.bd_tables.specs.declared.state.Right.{Right}
 use Rattle.bd_tables.specs.declared.state.RightState.{RightState}
 use Rattle.bd_tables.specs.declared.state.RightState.TheVariants as states
 use Rattle.bd_tables.specs.declared.state.Walk.{Walk}
 use Rattle.bd_tables.specs.declared.state.Walk.TheVariants.{Idle, Entered, Refused, Translated}
-use Rattle.bd_tables.specs.Effects as effects
-use Rattle.bd_tables.specs.Effects.{after_detach, all_swept, drop_unused, entered_walk, looked_walk, none_swept, read_walk, sweep_state, with_walk}
+use Rattle.bd_tables.specs.Effects.{after_detach, all_swept, drop_unused, entered_walk, looked_walk, none_swept, read_walk, sweep_state}
 use Rattle.bd_tables.specs.Kernel.{IsAttachedIn, IsDrained, IsSweptWhole}
-use Rattle.bd_tables.specs.Sound.{Allows, IsOpen, IsSound, OnRight}
-use Rattle.bd_tables.specs.State.{Rights, CellMap, TableState, completion_of, found_entering, found_under, lookup, pair_under, walk_at}
+use Rattle.bd_tables.specs.Sound.{Allows, IsOpen, OnRight}
+use Rattle.bd_tables.specs.State.{Rights, CellMap, TableState, completion_of, found_entering, found_under, pair_under, walk_at}
 use Rattle.bd_tables.proofs.KernelSound.{detach_keeps, drain_keeps, sweep_keeps}
-use Rattle.bd_tables.proofs.Sound.{enter_keeps, fill_keeps, look_keeps, read_keeps, retire_keeps}
-use Rattle.bd_turns.specs.Added.{EntriesAreNext, IsAdded, by_engine, by_invalidation}
-use Rattle.bd_turns.specs.declared.turn.Row.{Row}
-use Rattle.bd_turns.specs.Engines as engines
-use Rattle.bd_turns.specs.Engines.{Step, engine_step, invalidation_of, move_entry_of, request_for, request_of_piece}
-use Rattle.bd_turns.specs.Sound.{IsWalkFor}
-use Rattle.bd_turns.specs.State.{InHand, Progress, State, Looking, Reading, Filling, progress_of, running}
-use Rattle.bd_turns.specs.Turns.{after_step, posting_place}
+use Rattle.bd_turns.specs.Added.{IsAdded}
+use Rattle.bd_turns.specs.State.{State}
 use Rattle.bd_turns.proofs.AddedEntries.{added_keeps}
 use Rattle.bd_turns.proofs.CellsOfFiles.{KeepsAt}
 use Rattle.bd_turns.proofs.CellsOfPairs.{AreCells, KeepsFilesOf, cells_of_detach, cells_of_states, cells_of_store}
-use Rattle.bd_turns.proofs.EngineStepsOfTables.{IsChange, IsEnd, IsStep, drains, sweeps, enters, looks, reads, fills, moves, misses, retires, completes}
+use Rattle.bd_turns.proofs.EngineStepsOfTables.{IsChange, IsEnd, drains, sweeps}
 use Rattle.bd_turns.proofs.FilesOfRights.{keeps_files}
 use Rattle.bd_turns.proofs.RightsFit.{AllFit}
 use Rattle.bd_turns.proofs.RightsKept.{rights_after_change, rights_after_ending}
-use Rattle.bd_turns.proofs.RightsSteps.{all_fit_after, all_fit_untouched}
 use Rattle.bd_turns.proofs.TableParts.{AreOpen, drained_marks, marks_remove, marks_states, next_line, on_removed, on_states, refused_elsewhere, swept_marks, whole_marks}
-use Rattle.bd_turns.proofs.TablesOfEntries.{AreTablesOf, same_tables}
+use Rattle.bd_turns.proofs.TablesOfEntries.{AreTablesOf}
 
 -- ---- the invalidation engine
 
@@ -73,7 +57,9 @@ tables_after_change m after (drains post rest right posted attached cleared nobo
     let key = post.key in
     subst (AreTablesOf m.store) (sym is)
     (record {
-      fit = subst (λ (x : TableState). AllFit x.rights m.store) is (rights_after_change m after (drains post rest right posted attached cleared nobody is) are.fit);
+      fit =
+          subst (λ (x : TableState). AllFit x.rights m.store) is
+          (rights_after_change m after (drains post rest right posted attached cleared nobody is) are.fit);
       cells = cells_of_states tables.rights tables.cells m.store key (λ r. record r { state = states.Drained none_swept }) (λ r. refl) are.cells;
       marks = marks_states tables.rights key (λ state. states.Drained none_swept) (λ r swept there same. drained_marks swept same) are.marks;
       sound = drain_keeps tables are.sound key nobody;
@@ -190,7 +176,8 @@ refused_open rights request found holds other finding is differs =
     (holds (λ none. differs (sym (same_found request other found finding is) ∙ none)))
 
 -- who enters is refused in an open key, or finds no directory
-pub entered_open : (rights : Rights) (request : Request) → RefusedOpen rights (entered_walk request (found_entering (fin.get rights request.key) request.write))
+pub entered_open : (rights : Rights) (request : Request) →
+    RefusedOpen rights (entered_walk request (found_entering (fin.get rights request.key) request.write))
 entered_open rights request = by (fin.get rights request.key) refl
   where
     under : (right : Right) → fin.get rights request.key ≡ Some right → (state : RightState) → right.state ≡ state → (found : Option Found) →

@@ -1,12 +1,9 @@
 -- The tables and the store through each entry that a processor adds.
-use Rattle.std.proofs.Common.{◌≡◌, ◌≢◌, ◌⊎◌, inl, inr, ℕ, ◌+◌, ◌-◌, ◌*◌, ◌/◌, ◌<◌, ◌≤◌, Bool, true, false, not, List, [], ◌∷◌, length, Option, None, Some, IsSome, is_some, arith, refl, sym, ap, ◌∙◌, subst}
-use Rattle.std.specs.Prelude.{All}
-use Rattle.std.specs.Option.{option_map, option_map_or}
+use Rattle.std.proofs.Common.{◌≡◌, ℕ, ◌<◌, ◌≤◌, Bool, true, false, not, [], length, Option, None, Some, IsSome, is_some, arith, refl, sym, ap, ◌∙◌, subst}
+use Rattle.std.specs.Option.{option_map_or}
 use Rattle.std.specs.FinMap as fin
 use Rattle.std.proofs.lemmas.Bool.{both_ways, false≢true, not-true}
-use Rattle.std.proofs.lemmas.Option.{none-some, same_Some}
 use Rattle.bd_base.specs.declared.journal.At.{At}
-use Rattle.bd_base.specs.declared.key.Key.{Key}
 use Rattle.bd_base.specs.declared.limits.TheConstants.{DESCRIPTORS, FILE_SIZE, PARTS, PROCESSES}
 use Rattle.bd_base.specs.declared.volume.Inode.{Inode}
 use Rattle.bd_base.specs.declared.volume.Volume.{Volume}
@@ -15,8 +12,8 @@ use Rattle.bd_base.specs.Inodes.{blocks_of_slot}
 use Rattle.bd_base.specs.Scripts.{IsWithinLimits}
 use Rattle.bd_base.proofs.Ranges.{find-range_lowest}
 use Rattle.bd_entry.specs.declared.entry.Entry.{Entry}
-use Rattle.bd_entry.specs.declared.entry.Entry.TheVariants.{Attached, Cleared, Detached, Extended}
-use Rattle.bd_entry.specs.Calls.{Place, at_of, call_at}
+use Rattle.bd_entry.specs.declared.entry.Entry.TheVariants.{Attached, Cleared, Extended}
+use Rattle.bd_entry.specs.Calls.{Place, call_at}
 use Rattle.bd_entry.specs.Effects.{effect_of}
 use Rattle.bd_entry.specs.Rules.{RightBlock, Rights as RightsRule, place_in}
 use Rattle.bd_entry.specs.RulesOfRights.{Stands}
@@ -39,8 +36,7 @@ use Rattle.bd_turns.specs.Processors.{next_action}
 use Rattle.bd_turns.specs.Sound.{AreTablesSound, is_revoked}
 use Rattle.bd_turns.specs.State.{State}
 use Rattle.bd_turns.specs.Turns.{attached_tables, cells_of_part, may_write, tables_after}
-use Rattle.bd_turns.proofs.AddedEntries.{FromAction, added_keeps, adds_from, processors_detach_nothing}
-use Rattle.bd_turns.proofs.CellsOfFiles.{DoesNotGrow}
+use Rattle.bd_turns.proofs.AddedEntries.{FromAction, added_keeps, adds_from}
 use Rattle.bd_turns.proofs.CellsOfGrowth.{padded-size, part_cells-look}
 use Rattle.bd_turns.proofs.CellsOfPairs.{AreCells, KeepsFilesOf, are_cells, cells_of_attach, cells_of_states, cells_of_store}
 use Rattle.bd_turns.proofs.FilesOfRights.{added_process, does_not_grow, keeps_files}
@@ -270,13 +266,7 @@ tables_extended v m p at file to block adding =
       open_keys = adding.tables.open_keys;
     }
 
--- whether the entry changes the tables
-changes_tables : Entry → Bool
-changes_tables (Attached at fd part) = true
-changes_tables (Cleared at owner fd part) = true
-changes_tables (Extended at file to block) = true
-changes_tables e = false
-
+-- an entry of a processor keeps the tables, whatever it is
 tables_added : (v : Volume) (m : State) (p : Place) (e : Entry) → Adding v m p e →
     let t = effect_of m.store (place_in m.store p.call p.at) e in AreTablesOf t (tables_after t m.tables e)
 unfolding is_growth

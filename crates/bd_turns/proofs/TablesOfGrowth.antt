@@ -1,10 +1,10 @@
 -- The tables as a file grows by an entry.
-use Rattle.std.proofs.Common.{◌≡◌, ◌≢◌, ◌⊎◌, inl, inr, ℕ, ◌+◌, ◌-◌, ◌*◌, ◌/◌, ◌%◌, ◌<◌, ◌≤◌, Bool, true, false, List, [], ◌∷◌, ◌++◌, length, set, Option, None, Some, IsSome, is_some, arith, refl, sym, ap, ◌∙◌, subst}
-use Rattle.std.specs.Prelude.{slice_get, IfSome}
+use Rattle.std.proofs.Common.{◌≡◌, ◌≢◌, ℕ, ◌-◌, ◌/◌, ◌%◌, ◌<◌, ◌≤◌, List, [], ◌∷◌, ◌++◌, length, Option, None, Some, is_some, arith, refl, sym, ap, ◌∙◌, subst}
+use Rattle.std.specs.Prelude.{slice_get}
 use Rattle.std.specs.Option.{option_map, option_map_or, option_to_list}
 use Rattle.std.specs.FinMap as fin
-use Rattle.std.proofs.lemmas.List.{append-nil, get_or-set_other, get_or-set_same, length-append, length-set}
-use Rattle.std.proofs.lemmas.Option.{none-some, same_Some, slice_get_past, slice_get_within}
+use Rattle.std.proofs.lemmas.List.{append-nil, get_or-set_other, get_or-set_same, length-set}
+use Rattle.std.proofs.lemmas.Option.{slice_get_past, slice_get_within}
 use Rattle.bd_base.specs.declared.journal.At.{At}
 use Rattle.bd_base.specs.declared.key.Cell.{Cell}
 use Rattle.bd_base.specs.declared.key.Key.{Key}
@@ -16,14 +16,14 @@ use Rattle.bd_base.proofs.FileLists.{inode_at-set_same, inode_at-within}
 use Rattle.bd_entry.specs.declared.entry.Entry.{Entry}
 use Rattle.bd_entry.specs.declared.entry.Entry.TheVariants.{Extended}
 use Rattle.bd_entry.specs.Calls.{Place}
-use Rattle.bd_entry.specs.Effects.{after_change, effect_of}
-use Rattle.bd_entry.specs.Store.{Store, Valid, blocks_in, file_in, limit_in, size_in}
+use Rattle.bd_entry.specs.Effects.{effect_of}
+use Rattle.bd_entry.specs.Store.{Store, Valid, blocks_in, file_in, limit_in}
 use Rattle.bd_entry.proofs.EffectsOnFiles.{effect_of-files}
-use Rattle.bd_file_table.specs.Fragments.{Cells, cell_at, with_cell}
-use Rattle.bd_tables.specs.Effects.{put_entry, raise_limit, with_limit}
+use Rattle.bd_file_table.specs.Fragments.{cell_at, with_cell}
+use Rattle.bd_tables.specs.Effects.{with_limit}
 use Rattle.bd_tables.specs.Kernel.{ReachesUpTo}
 use Rattle.bd_tables.specs.Sound.{IsSound}
-use Rattle.bd_tables.specs.State.{Rights, TableState, block_pair}
+use Rattle.bd_tables.specs.State.{TableState}
 use Rattle.bd_tables.proofs.KernelSound.{put_keeps, raise_keeps}
 use Rattle.bd_turns.specs.Sound.{cell_of_block}
 use Rattle.bd_turns.specs.Turns.{cell_in, grown_tables}

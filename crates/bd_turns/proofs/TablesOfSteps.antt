@@ -1,34 +1,29 @@
 -- The tables and the store through each step of a device engine.
-use Rattle.std.proofs.Common.{◌≡◌, ◌≢◌, ℕ, Bool, true, false, List, [], ◌∷◌, set, Option, None, Some, refl, sym, ap, ◌∙◌, subst}
+use Rattle.std.proofs.Common.{◌≡◌, ℕ, false, Some, refl, sym, ap, ◌∙◌, subst}
 use Rattle.std.specs.Option.{option_and_then, option_map}
 use Rattle.std.specs.FinMap as fin
-use Rattle.std.proofs.lemmas.Option.{none-some, same_Some}
-use Rattle.bd_base.specs.declared.journal.Found.{Found}
-use Rattle.bd_base.specs.declared.journal.Way.TheVariants as ways
-use Rattle.bd_base.specs.declared.key.Key.{Key}
+use Rattle.std.proofs.lemmas.Option.{same_Some}
 use Rattle.bd_base.specs.declared.volume.Volume.{Volume}
 use Rattle.bd_base.specs.Pieces.{Piece}
 use Rattle.bd_entry.specs.declared.entry.Entry.{Entry}
 use Rattle.bd_entry.specs.declared.entry.Entry.TheVariants as entries
-use Rattle.bd_entry.specs.Calls.{Place, does_write, fd_of, piece_of_call}
+use Rattle.bd_entry.specs.Calls.{Place, fd_of, piece_of_call}
 use Rattle.bd_entry.specs.Effects.{effect_of}
 use Rattle.bd_entry.specs.Rules.{place_in}
-use Rattle.bd_entry.specs.Store.{Descriptor, Store, Valid, descriptor_at}
+use Rattle.bd_entry.specs.Store.{Store, Valid, descriptor_at}
 use Rattle.bd_entry.proofs.NextActs.{map_from, then_from}
 use Rattle.bd_lines.specs.Lines.{hit}
-use Rattle.bd_tables.specs.declared.request.Completion.{Completion}
 use Rattle.bd_tables.specs.declared.request.Request.{Request}
 use Rattle.bd_tables.specs.declared.state.Walk.{Walk}
-use Rattle.bd_tables.specs.declared.state.Walk.TheVariants.{Idle, Entered, Refused, Translated}
-use Rattle.bd_tables.specs.Effects as effects
+use Rattle.bd_tables.specs.declared.state.Walk.TheVariants.{Idle, Entered, Translated}
 use Rattle.bd_tables.specs.Effects.{entered_walk, looked_walk, read_walk, with_walk}
 use Rattle.bd_tables.specs.Sound.{Allows, IsSound, OnRight, granted_of}
 use Rattle.bd_tables.specs.State.{TableState, found_entering, lookup, told_of, walk_at}
 use Rattle.bd_tables.proofs.Sound.{enter_keeps, fill_keeps, look_keeps, read_keeps, retire_keeps}
 use Rattle.bd_turns.specs.Added.{EntriesAreNext, IsAdded, by_engine}
-use Rattle.bd_turns.specs.Engines.{Step, engine_step, key_for, move_entry, move_entry_of, request_for, request_of_piece}
+use Rattle.bd_turns.specs.Engines.{Step, engine_step, move_entry, move_entry_of, request_for, request_of_piece}
 use Rattle.bd_turns.specs.Sound.{IsWalkAt, IsWalkFor}
-use Rattle.bd_turns.specs.State.{InHand, Phase, Progress, State, Looking, Reading, Filling, progress_of, running}
+use Rattle.bd_turns.specs.State.{InHand, Phase, State, Looking, Reading, Filling, progress_of, running}
 use Rattle.bd_turns.specs.Turns.{after_step}
 use Rattle.bd_turns.proofs.AddedEntries.{added_keeps}
 use Rattle.bd_turns.proofs.CellsOfFiles.{DoesNotGrow, IsOfProcess}

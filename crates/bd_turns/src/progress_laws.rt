@@ -1,6 +1,6 @@
 //! The two laws of progress. Each is the contract of a function that does nothing.
 ghost use Rattle.bd_turns.specs.Progress.{NeverStuck};
-ghost use Rattle.bd_turns.specs.Rest.{RestFalls, TurnsKeepWithin};
+ghost use Rattle.bd_turns.specs.Rest.{RestFalls};
 
 /// As long as a call has not ended, some actor's turn has an effect.
 pub fn never_stuck()
@@ -10,9 +10,4 @@ pub fn never_stuck()
 /// Each effective turn lowers the rest, where no call took too many turns.
 pub fn rest_falls()
     ensures { RestFalls }
-{}
-
-/// No turn lets a call take more turns than any call takes at most.
-pub fn turns_keep_within()
-    ensures { TurnsKeepWithin }
 {}
