@@ -44,7 +44,8 @@ use Rattle.bd_turns.specs.declared.turn.Wait.{Wait}
 use Rattle.bd_turns.specs.declared.turn.Wait.TheVariants as waits
 use Rattle.bd_turns.specs.Engines as engines
 use Rattle.bd_turns.specs.Engines.{Invalidation, Step, detach, drain, engine_step, invalidate, invalidation_of, sweep_or_detach}
-use Rattle.bd_turns.specs.Reached.{IsReached, TurnsKeepCalls}
+use Rattle.bd_turns.specs.Reached.{IsReached}
+use Rattle.bd_turns.proofs.Columns.{TurnsKeepCalls}
 use Rattle.bd_turns.specs.Sound.{AreCallsSound, is_clear_at}
 use Rattle.bd_turns.specs.State.{Posted, State, outstanding, progress_of, running, with_progress}
 use Rattle.bd_turns.specs.Turns.{after_effect, after_ending, after_step, after_turn, posting_place, with_entry, with_entry_if_any}
@@ -223,6 +224,6 @@ led-sound : (v : Volume) (m next : State) → IsReached v m → EntriesAreNext v
 led-sound v m next reached each (Leads.stays same) history = subst AreCallsSound (sym same) reached.sound.calls
 led-sound v m next reached each (Leads.acts effective) history = effective-sound v m next reached each effective history
 
-pub turns_keep_calls : TurnsKeepCalls
-turns_keep_calls v m actor reached each is_actor =
+pub calls_kept : TurnsKeepCalls
+calls_kept v m actor reached each is_actor =
     led-sound v m (after_turn m actor) reached each (turn_leads m actor) (turns_keep_history v m actor reached each is_actor)

@@ -11,7 +11,7 @@ use Rattle.bd_entry.proofs.Histories.{history-push}
 use Rattle.bd_turns.proofs.Cases.{Effective, Leads, turn_leads}
 use Rattle.bd_turns.specs.Added.{by_engine, by_invalidation, by_processor, EntriesAreNext, IsAdded}
 use Rattle.bd_turns.specs.Engines.{Step}
-use Rattle.bd_turns.specs.Reached.{TurnsKeepHistory}
+use Rattle.bd_turns.proofs.Columns.{TurnsKeepHistory}
 use Rattle.bd_turns.specs.State.{State}
 use Rattle.bd_turns.specs.Turns.{after_step, after_turn, with_entry}
 
@@ -43,5 +43,5 @@ led-history : (v : Volume) (m next : State) → HasHistory v m → EntriesAreNex
 led-history v m next history each (Leads.stays same) = subst (HasHistory v) (sym same) history
 led-history v m next history each (Leads.acts effective) = effective-history v m next history each effective
 
-pub turns_keep_history : TurnsKeepHistory
-turns_keep_history v m actor reached each is_actor = led-history v m (after_turn m actor) reached.history each (turn_leads m actor)
+pub history_kept : TurnsKeepHistory
+history_kept v m actor reached each is_actor = led-history v m (after_turn m actor) reached.history each (turn_leads m actor)

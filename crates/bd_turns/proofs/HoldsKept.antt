@@ -10,7 +10,8 @@ use Rattle.bd_tables.specs.State.{Rights}
 use Rattle.bd_turns.specs.declared.turn.Row.TheVariants as rows
 use Rattle.bd_turns.specs.Added.{EntriesAreNext, by_engine, by_invalidation, by_processor}
 use Rattle.bd_turns.specs.Processors as processors
-use Rattle.bd_turns.specs.Reached.{IsReached, TurnsKeepHolds}
+use Rattle.bd_turns.specs.Reached.{IsReached}
+use Rattle.bd_turns.proofs.Columns.{TurnsKeepHolds}
 use Rattle.bd_turns.specs.Sound.{AreHoldsSound}
 use Rattle.bd_turns.specs.State.{Progress, State, progress_of}
 use Rattle.bd_turns.specs.Turns.{after_adding, after_effect, after_ending, after_polling, after_posting, after_step, after_submitting, after_turn, with_entry_if_any, with_hold}
@@ -88,8 +89,8 @@ effective v m reached legal next (ends p e tables place ending) =
     detached.3
 
 -- and after every turn
-pub turns_keep_holds : TurnsKeepHolds
-turns_keep_holds v m actor reached legal is_actor = by (after_turn m actor) (turn_leads m actor)
+pub holds_kept : TurnsKeepHolds
+holds_kept v m actor reached legal is_actor = by (after_turn m actor) (turn_leads m actor)
   where
     by : (next : State) → Leads m next → AreHoldsSound next
     by next (stays same) = subst AreHoldsSound (sym same) reached.sound.holds_are

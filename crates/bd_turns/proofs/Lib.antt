@@ -98,3 +98,5 @@ pub mod TablesKept
 pub mod EngineStepsOfTables
 pub mod PieceSteps
 pub mod TablesAtBoot
+pub mod Columns
+pub mod TurnsKept

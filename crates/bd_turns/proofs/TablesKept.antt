@@ -19,7 +19,8 @@ use Rattle.bd_turns.specs.Added.{EntriesAreNext, IsAdded, by_invalidation, by_pr
 use Rattle.bd_turns.specs.declared.turn.Row.{Row}
 use Rattle.bd_turns.specs.Engines as engines
 use Rattle.bd_turns.specs.Processors as processors
-use Rattle.bd_turns.specs.Reached.{IsReached, TurnsKeepTables}
+use Rattle.bd_turns.specs.Reached.{IsReached}
+use Rattle.bd_turns.proofs.Columns.{TurnsKeepTables}
 use Rattle.bd_turns.specs.Sound.{AreTablesSound, IsIdleWithout, MayNote}
 use Rattle.bd_turns.specs.State.{InHand, Posted, State, progress_of, running}
 use Rattle.bd_turns.specs.Turns.{after_adding, after_effect, after_ending, after_polling, after_posting, after_step, after_submitting, after_turn, with_entry}

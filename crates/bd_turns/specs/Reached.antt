@@ -8,7 +8,7 @@ use Rattle.bd_base.specs.Volumes.{IsSoundVolume}
 use Rattle.bd_entry.specs.Laws.{IsHistory}
 use Rattle.bd_entry.specs.Store.{start_store}
 use Rattle.bd_turns.specs.Added.{EntriesAreNext}
-use Rattle.bd_turns.specs.Sound.{AreCallsSound, AreHoldsSound, AreTablesSound, Sound}
+use Rattle.bd_turns.specs.Sound.{Sound}
 use Rattle.bd_turns.specs.State.{State, boot_state}
 use Rattle.bd_turns.specs.Turns.{after_turn, process_count}
 
@@ -34,25 +34,3 @@ TurnsAddLegally = (v : Volume) (m : State) → IsReached v m → EntriesAreNext 
 -- and each turn of any actor leaves it so
 abbrev pub TurnsKeepIt : Type 0
 TurnsKeepIt = (v : Volume) (m : State) (actor : ℕ) → IsReached v m → IsActor m actor → IsReached v (after_turn m actor)
-
--- ---- the columns
-
-abbrev pub TurnsKeepCalls : Type 0
-TurnsKeepCalls =
-    (v : Volume) (m : State) (actor : ℕ) → IsReached v m → EntriesAreNext v m → IsActor m actor →
-    AreCallsSound (after_turn m actor)
-
-abbrev pub TurnsKeepTables : Type 0
-TurnsKeepTables =
-    (v : Volume) (m : State) (actor : ℕ) → IsReached v m → EntriesAreNext v m → IsActor m actor →
-    AreTablesSound (after_turn m actor)
-
-abbrev pub TurnsKeepHolds : Type 0
-TurnsKeepHolds =
-    (v : Volume) (m : State) (actor : ℕ) → IsReached v m → EntriesAreNext v m → IsActor m actor →
-    AreHoldsSound (after_turn m actor)
-
-abbrev pub TurnsKeepHistory : Type 0
-TurnsKeepHistory =
-    (v : Volume) (m : State) (actor : ℕ) → IsReached v m → EntriesAreNext v m → IsActor m actor →
-    let next = after_turn m actor in IsHistory v next.script next.journal next.store

@@ -1,5 +1,5 @@
 //! What holds of the machine at every moment. Each law is the contract of a function that does nothing.
-ghost use Rattle.bd_turns.specs.Reached.{BootIsReached, TurnsAddLegally, TurnsKeepCalls, TurnsKeepHistory};
+ghost use Rattle.bd_turns.specs.Reached.{BootIsReached, TurnsAddLegally, TurnsKeepIt};
 
 /// A machine begins with an empty history, and sound.
 pub fn boot_is_reached()
@@ -11,13 +11,7 @@ pub fn turns_add_legally()
     ensures { TurnsAddLegally }
 {}
 
-/// After each turn the journal is a history of the script, which leads to the store.
-pub fn turns_keep_history()
-    ensures { TurnsKeepHistory }
-{}
-
-/// Each turn leaves the calls sound: they come one after the other, each ends with no command left, and the commands of the
-/// running ones are of their pieces.
-pub fn turns_keep_calls()
-    ensures { TurnsKeepCalls }
+/// After each turn of any actor the journal is a history of the script, which leads to the store, and the state is sound.
+pub fn turns_keep_it()
+    ensures { TurnsKeepIt }
 {}
