@@ -29,7 +29,7 @@ use Rattle.bd_turns.proofs.Cases.{Effective, Leads, turn_leads}
 use Rattle.bd_turns.proofs.ClearingCalls.{clears_key}
 use Rattle.bd_turns.proofs.DoneTurns.{IsDone, grown}
 use Rattle.bd_turns.proofs.EngineStepsOfCalls.{at_none, step_access, step_all, step_commands, step_ended, step_held, step_is}
-use Rattle.bd_turns.proofs.GrowingHistories.{turns_keep_history}
+use Rattle.bd_turns.proofs.GrowingHistories.{history_kept}
 use Rattle.bd_turns.proofs.KeptCommands.{no_commands}
 use Rattle.bd_turns.proofs.LegalActs.{none_without_pieces, pieces_outstanding}
 use Rattle.bd_turns.proofs.LegalDetaches.{invalidation_ends, posting}
@@ -226,4 +226,4 @@ led-sound v m next reached each (Leads.acts effective) history = effective-sound
 
 pub calls_kept : TurnsKeepCalls
 calls_kept v m actor reached each is_actor =
-    led-sound v m (after_turn m actor) reached each (turn_leads m actor) (turns_keep_history v m actor reached each is_actor)
+    led-sound v m (after_turn m actor) reached each (turn_leads m actor) (history_kept v m actor reached each is_actor)
