@@ -100,3 +100,4 @@ pub mod PieceSteps
 pub mod TablesAtBoot
 pub mod Columns
 pub mod TurnsKept
+pub mod LinesKept

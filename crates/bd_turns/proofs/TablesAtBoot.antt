@@ -62,6 +62,7 @@ tables_at_boot v script = record {
   lookups = λ key right index is of_part. absurd (none-some right (sym (get-empty key_cmp key) ∙ is));
   whole = λ key right is. absurd (none-some right (sym (get-empty key_cmp key) ∙ is));
   used = λ pair in_use. absurd (false≢true (sym (ap is_some (get-empty pair_cmp pair)) ∙ in_use));
+  lines = λ c line is. absurd (none-some line (sym (lines_at_boot LINES c) ∙ is));
   marked = λ key right swept is drained. absurd (none-some right (sym (get-empty key_cmp key) ∙ is));
   tables = new_tables_sound script;
   hands = λ process p hand running in_hand. absurd (none-some hand (sym (hands_at_boot script.processes process) ∙ in_hand));

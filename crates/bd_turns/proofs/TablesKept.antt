@@ -21,7 +21,7 @@ use Rattle.bd_turns.specs.Engines as engines
 use Rattle.bd_turns.specs.Processors as processors
 use Rattle.bd_turns.specs.Reached.{IsReached}
 use Rattle.bd_turns.proofs.Columns.{TurnsKeepTables}
-use Rattle.bd_turns.specs.Sound.{AreTablesSound, IsIdleWithout, MayNote}
+use Rattle.bd_turns.specs.Sound.{AreLinesOfParts, AreTablesSound, IsIdleWithout, MayNote}
 use Rattle.bd_turns.specs.State.{InHand, Posted, State, progress_of, running}
 use Rattle.bd_turns.specs.Turns.{after_adding, after_effect, after_ending, after_polling, after_posting, after_step, after_submitting, after_turn, with_entry}
 use Rattle.bd_turns.proofs.AddedEntries.{added_of_call, adds_from, is_detach, processors_detach_nothing}
@@ -32,6 +32,7 @@ use Rattle.bd_turns.proofs.FindsKept.{Detaches}
 use Rattle.bd_turns.proofs.HandFrames.{is_place}
 use Rattle.bd_turns.proofs.HandsKept.{AreWalking, IsCalm, calm_adding, calm_effect, calm_polling, calm_posting, calm_submitting, idle_calm, walking_calm}
 use Rattle.bd_turns.proofs.HandsOfSteps.{idle_after_step, steps_hand, steps_to, walking_after_step}
+use Rattle.bd_turns.proofs.LinesKept.{lines_after_change, lines_after_step, tables_after-lines}
 use Rattle.bd_turns.proofs.NotableKept.{notable_after_step, notable_calm, notable_calm_entry}
 use Rattle.bd_turns.proofs.NotableSteps.{Noting}
 use Rattle.bd_turns.proofs.PieceCalls.{has_pieces, pieces_attach_nothing}
@@ -44,12 +45,14 @@ use Rattle.bd_turns.proofs.TablesOfSteps.{is_request, tables_after_step}
 -- ---- the column in parts
 
 -- the tables and the engines are sound
-are_sound : (m : State) → AreTablesOf m.store m.tables → AreWalking m → IsIdleWithout m → MayNote m → AreTablesSound m
-are_sound m are walking idle notable = record {
+are_sound : (m : State) → AreTablesOf m.store m.tables → AreLinesOfParts m.tables.lines → AreWalking m → IsIdleWithout m → MayNote m →
+    AreTablesSound m
+are_sound m are lines walking idle notable = record {
   rights = rights_of_fit m are.fit;
   lookups = lookups_of_cells m are.cells;
   whole = whole_of_cells m are.cells;
   used = are.cells.used;
+  lines = lines;
   marked = are.marks;
   tables = are.sound;
   hands = walking;
@@ -59,9 +62,10 @@ are_sound m are walking idle notable = record {
 }
 
 -- after a calm turn
-calm_sound : (m next : State) → IsCalm m next → AreTablesSound m → AreTablesOf next.store next.tables → MayNote next → AreTablesSound next
-calm_sound m next calm sound are notable =
-    are_sound next are (walking_calm m next calm sound.hands) (idle_calm m next calm sound.idle) notable
+calm_sound : (m next : State) → IsCalm m next → AreTablesSound m → AreTablesOf next.store next.tables → AreLinesOfParts next.tables.lines →
+    MayNote next → AreTablesSound next
+calm_sound m next calm sound are lines notable =
+    are_sound next are lines (walking_calm m next calm sound.hands) (idle_calm m next calm sound.idle) notable
 
 -- a process is one of those that have a walk and a progress
 within_walks : (v : Volume) (m : State) (p : Place) → IsReached v m → running m p.at.process ≡ Some p → p.at.process < length m.tables.walks
@@ -98,6 +102,7 @@ sound_adding v m p row e reached next running_is acting =
     let are = tables_of m sound in
     let calm = calm_adding m p row e in
     calm_sound m (after_adding m p row e) calm sound (tables_after_adding v m p row e added acting calls.valid calls.limits are)
+    (subst AreLinesOfParts (sym (tables_after-lines (with_entry m p.call e p.at).store m.tables e)) sound.lines)
     (notable_calm_entry v m (after_adding m p row e) p e calm refl added calls.valid sound.hands sound.open_keys
     (no_hand v m p row e reached running_is acting)
     (λ key on detaches. both_ways (is_detach e) (processors_detach_nothing m p e (adds_from m p row e acting)) (detach_is key e detaches))
@@ -128,6 +133,7 @@ sound_step v m p step reached next running_is acting =
     } in
     are_sound (after_step m p step)
     (tables_after_step v m p step next running_is acting is calls.valid hands are)
+    (lines_after_step m p step is sound.lines)
     (walking_after_step m p step running_is steps to sound.hands)
     (idle_after_step m p step steps to sound.idle)
     (notable_after_step v m p step next running_is acting is steps to noting sound.hands sound.notable)
@@ -145,6 +151,7 @@ sound_change v m p after reached change =
     let base = record m { tables = after } in
     let calm = calm_effect m base p (record { script = refl; processes = refl; walks = change_walks m after change }) in
     calm_sound m (after_effect base p) calm sound (tables_after_change m after change (tables_of m sound))
+    (lines_after_change m.tables m.posted after change sound.lines)
     (notable_calm m (after_effect base p) calm refl sound.notable)
 
 -- a call with pieces detaches nothing
@@ -166,6 +173,7 @@ sound_ending v m p e after reached added end =
     let calm = calm_effect m base p
     (record { script = refl; processes = refl; walks = ap (λ (t : TableState). t.walks) end.after_is }) in
     calm_sound m (after_ending m p e after) calm sound (tables_after_ending v m p e after added end calls.valid (tables_of m sound))
+    (subst (λ (t : TableState). AreLinesOfParts t.lines) (sym end.after_is) sound.lines)
     (notable_calm_entry v m (after_ending m p e after) p e calm refl added calls.valid sound.hands sound.open_keys
     (λ hand held.
     let walks = sound.hands p.at.process p hand added.running_is held in
@@ -189,15 +197,15 @@ effective_sound v m _ reached next (posts p key running_is acting) =
     let sound = reached.sound.tables_are in
     let post : Posted = record { key = key; by = p.at } in
     let calm = calm_posting m p post in
-    calm_sound m (after_posting m p post) calm sound (tables_of m sound) (notable_calm m (after_posting m p post) calm refl sound.notable)
+    calm_sound m (after_posting m p post) calm sound (tables_of m sound) sound.lines (notable_calm m (after_posting m p post) calm refl sound.notable)
 effective_sound v m _ reached next (submits p piece running_is acting) =
     let sound = reached.sound.tables_are in
     let calm = calm_submitting m p piece in
-    calm_sound m (after_submitting m p piece) calm sound (tables_of m sound) (notable_calm m (after_submitting m p piece) calm refl sound.notable)
+    calm_sound m (after_submitting m p piece) calm sound (tables_of m sound) sound.lines (notable_calm m (after_submitting m p piece) calm refl sound.notable)
 effective_sound v m _ reached next (polls p running_is acting) =
     let sound = reached.sound.tables_are in
     let calm = calm_polling m p in
-    calm_sound m (after_polling m p) calm sound (tables_of m sound) (notable_calm m (after_polling m p) calm refl sound.notable)
+    calm_sound m (after_polling m p) calm sound (tables_of m sound) sound.lines (notable_calm m (after_polling m p) calm refl sound.notable)
 effective_sound v m _ reached next (steps p step running_is acting) = sound_step v m p step reached next running_is acting
 effective_sound v m _ reached next (changes p row tables posting acting) =
     sound_change v m p tables reached (changes_of m.tables m.posted row tables acting)

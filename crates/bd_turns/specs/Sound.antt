@@ -23,7 +23,9 @@ use Rattle.bd_entry.specs.Refusals.{file_of, first_refusal}
 use Rattle.bd_entry.specs.RulesOfRights.{HasRights, TheDescriptor}
 use Rattle.bd_entry.specs.Store.{Descriptor, Store, Valid, blocks_in, descriptor_at, has_part, limit_in, size_in}
 use Rattle.bd_file_table.specs.Fragments.{Cells}
+use Rattle.bd_lines.specs.declared.lines.Line.{Line}
 use Rattle.bd_lines.specs.declared.lines.TheConstants.{LINES}
+use Rattle.bd_lines.specs.Lines.{LineList, line_at}
 use Rattle.bd_tables.specs.declared.request.Request.{Request}
 use Rattle.bd_tables.specs.declared.state.Right.{Right}
 use Rattle.bd_tables.specs.declared.state.RightState.{RightState}
@@ -83,6 +85,11 @@ abbrev pub AreWhole : State → Type 0
 AreWhole m =
     (key : Key) (right : Right) → fin.get m.tables.rights key ≡ Some right →
     (cells : Cells) × (fin.get m.tables.cells (pair_under key right) ≡ Some cells) × (length cells ≡ PART_BLOCKS)
+
+-- each line of the cache is about a block of the part of its key
+abbrev pub AreLinesOfParts : LineList → Type 0
+AreLinesOfParts lines =
+    (c : ℕ) (line : Line) → line_at lines c ≡ Some line → line.index / PART_BLOCKS ≡ line.key.part
 
 -- a drained key has a mark for each line of the cache
 abbrev pub AreMarked : State → Type 0
@@ -355,6 +362,7 @@ pub record AreTablesSound (m : State) : Type 0 where
   pub lookups : AreLookupsOf m
   pub whole : AreWhole m
   pub used : AreUsed m
+  pub lines : AreLinesOfParts m.tables.lines
   pub marked : AreMarked m
   pub tables : IsSound m.tables
   pub hands : (process : ℕ) (p : Place) (hand : InHand) → running m process ≡ Some p →
