@@ -101,3 +101,5 @@ pub mod TablesAtBoot
 pub mod Columns
 pub mod TurnsKept
 pub mod LinesKept
+pub mod HeldTranslations
+pub mod Releases

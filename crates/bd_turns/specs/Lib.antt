@@ -8,5 +8,6 @@ pub mod Sound
 pub mod Added
 pub mod Reached
 pub mod Laws
+pub mod Names
 pub mod Progress
 pub mod Rest
