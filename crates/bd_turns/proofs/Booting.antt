@@ -1,44 +1,31 @@
 -- A machine begins with a history, and sound.
-use Rattle.std.proofs.Common.{◌≡◌, ℕ, zero, suc, Bool, true, false, ◌&&◌, not, List, [], ◌∷◌, map, Option, None, Some, refl, sym, ap, ◌∙◌, subst, arith, get_or, is_some}
+use Rattle.std.proofs.Common.{◌≡◌, ℕ, zero, suc, Bool, true, List, [], ◌∷◌, map, Some, refl, sym, ap, ◌∙◌, subst, arith, get_or}
 use Rattle.std.specs.Prelude.{All}
 use Rattle.std.specs.List.{list_any}
-use Rattle.std.specs.FinMap as fin
 use Rattle.std.proofs.lemmas.Bool.{and_left, false≢true}
-use Rattle.std.proofs.lemmas.List.{length-map, length-replicate}
+use Rattle.std.proofs.lemmas.List.{length-map}
 use Rattle.std.proofs.lemmas.List.Elements.{All-nil}
-use Rattle.std.proofs.lemmas.Option.{none-some}
-use Rattle.bd_base.specs.declared.key.Key.{Key}
 use Rattle.bd_base.specs.declared.script.Process.{Process}
 use Rattle.bd_base.specs.declared.script.Script.{Script}
 use Rattle.bd_base.specs.declared.volume.Volume.{Volume}
-use Rattle.bd_base.specs.Keys.{key_cmp, pair_cmp}
 use Rattle.bd_base.specs.Scripts.{IsWithinLimits}
 use Rattle.bd_base.specs.Volumes.{IsSoundVolume}
 use Rattle.bd_entry.specs.declared.entry.Entry.{Entry}
-use Rattle.bd_entry.specs.Actions.{has_begun, is_for_device, is_none_of}
+use Rattle.bd_entry.specs.Actions.{is_for_device, is_none_of}
 use Rattle.bd_entry.specs.Calls.{Place, is_ended_by}
 use Rattle.bd_entry.specs.Promises.{is_whole_refusal}
 use Rattle.bd_entry.specs.Store.{start_store}
 use Rattle.bd_entry.proofs.HistoryLaws.{is_call}
-use Rattle.bd_entry.proofs.KnownSizes.{none_open_at_start}
 use Rattle.bd_entry.proofs.StoreLaws.{start_is_valid}
-use Rattle.bd_lines.specs.declared.lines.Line.{Line}
-use Rattle.bd_lines.specs.declared.lines.TheConstants.{LINES}
-use Rattle.bd_tables.specs.declared.state.Right.{Right}
-use Rattle.bd_tables.specs.declared.state.Walk.{Walk}
 use Rattle.bd_tables.specs.declared.state.Walk.TheVariants as walks
-use Rattle.bd_tables.specs.Sound.{IsSound, granted_of}
-use Rattle.bd_tables.specs.State.{found_of, told_of, walk_at}
-use Rattle.bd_tables.proofs.KeptNew.{none_there}
 use Rattle.bd_turns.proofs.HoldsAtBoot.{holds_at_boot}
 use Rattle.bd_turns.proofs.KeptCommands.{no_commands}
 use Rattle.bd_turns.proofs.RunningPlaces.{runs_at}
 use Rattle.bd_turns.proofs.StayingDescriptors.{none_unended}
 use Rattle.bd_turns.proofs.TablesAtBoot.{tables_at_boot}
-use Rattle.bd_turns.specs.Processors.{running_of}
 use Rattle.bd_turns.specs.Reached.{BootIsReached}
-use Rattle.bd_turns.specs.Sound.{AreCallsSound, AreHoldsSound, AreTablesSound, is_clear, is_clear_at, is_release}
-use Rattle.bd_turns.specs.State.{InHand, Progress, State, boot_state, does_hold, has_ended, new_progress, outstanding, progress_of, running}
+use Rattle.bd_turns.specs.Sound.{AreCallsSound, is_clear_at}
+use Rattle.bd_turns.specs.State.{Progress, State, boot_state, has_ended, new_progress, outstanding, progress_of, running}
 
 -- every process is at its start
 all_new : (processes : List Process) (process : ℕ) →

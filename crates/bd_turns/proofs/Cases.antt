@@ -1,8 +1,8 @@
 -- The cases of an effective turn.
-use Rattle.std.proofs.Common.{◌≡◌, ℕ, ◌*◌, ◌-◌, Bool, true, false, List, [], ◌∷◌, ◌++◌, Option, None, Some, cond, refl, sym, ap, ◌∙◌}
+use Rattle.std.proofs.Common.{◌≡◌, ℕ, ◌*◌, ◌-◌, Bool, true, false, Option, None, Some, cond, refl, sym, ap, ◌∙◌}
 use Rattle.std.specs.Prelude.{nat_lt}
 use Rattle.std.proofs.lemmas.Option.{none-some, same_Some}
-use Rattle.std.specs.Option.{option_and_then, option_map, option_map_or}
+use Rattle.std.specs.Option.{option_map, option_map_or}
 use Rattle.bd_entry.specs.declared.entry.Entry.{Entry}
 use Rattle.bd_entry.specs.Calls.{Place, call_at}
 use Rattle.bd_tables.specs.State.{TableState}
@@ -11,8 +11,8 @@ use Rattle.bd_turns.specs.Engines as engines
 use Rattle.bd_turns.specs.Engines.{Invalidation, Step, engine_step, invalidation_of}
 use Rattle.bd_turns.specs.Processors as processors
 use Rattle.bd_turns.specs.Processors.{Action, next_action}
-use Rattle.bd_turns.specs.State.{Posted, State, place_of, running, running_at}
-use Rattle.bd_turns.specs.Turns.{Outcome, Nothing, Waiting, Acting, after_adding, after_effect, after_ending, after_polling, after_posting, after_step, after_submitting, after_turn, engine_outcome, invalidation_outcome, outcome_of, outcome_of_action, outcome_of_invalidation, posting_place, process_count, processor_outcome, state_after}
+use Rattle.bd_turns.specs.State.{State, place_of, running, running_at}
+use Rattle.bd_turns.specs.Turns.{Outcome, Nothing, after_adding, after_effect, after_ending, after_polling, after_posting, after_step, after_submitting, after_turn, engine_outcome, invalidation_outcome, outcome_of_action, outcome_of_invalidation, posting_place, process_count, processor_outcome, state_after}
 
 -- the state that each kind of effective turn leads to
 pub data Effective (m : State) : State → Type 0 where

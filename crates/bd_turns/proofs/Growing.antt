@@ -5,9 +5,8 @@ use Rattle.std.specs.Option.{option_map_or, option_to_list}
 use Rattle.std.proofs.lemmas.List.{append-nil}
 use Rattle.bd_entry.specs.declared.entry.Entry.{Entry}
 use Rattle.bd_entry.specs.Calls.{Place}
-use Rattle.bd_turns.specs.declared.turn.Event.{Event}
 use Rattle.bd_turns.specs.declared.turn.Turn.TheVariants.{Did}
-use Rattle.bd_turns.specs.Course.{after_events, visible}
+use Rattle.bd_turns.specs.Course.{visible}
 use Rattle.bd_turns.specs.Engines as engines
 use Rattle.bd_turns.specs.Engines.{Invalidation, Step, engine_step, invalidation_of}
 use Rattle.bd_turns.specs.Laws.{OtherTurnsChangeNothing, RunsOnlyAdd, ScriptsStay, TurnsOnlyAdd}

@@ -1,5 +1,5 @@
 -- Each translation that is held is current, in each state that a machine has come to.
-use Rattle.std.proofs.Common.{◌≡◌, ◌⊎◌, ℕ, ◌/◌, ◌≤◌, List, [], ◌∷◌, ◌++◌, map, slice_get, Option, None, Some, refl, sym, ap, ◌∙◌, subst, ⊎_elim}
+use Rattle.std.proofs.Common.{◌≡◌, ℕ, ◌/◌, ◌≤◌, List, [], ◌∷◌, ◌++◌, map, slice_get, Option, None, Some, refl, sym, ap, ◌∙◌, subst, ⊎_elim}
 use Rattle.std.specs.FinMap as fin
 use Rattle.std.proofs.lemmas.Option.{none-some, same_Some}
 use Rattle.bd_base.specs.declared.key.Cell.{Cell}
@@ -8,12 +8,9 @@ use Rattle.bd_base.specs.declared.limits.TheConstants.{PART_BLOCKS}
 use Rattle.bd_base.specs.declared.volume.Volume.{Volume}
 use Rattle.bd_entry.specs.Calls.{Place}
 use Rattle.bd_entry.specs.Store.{Store, blocks_in, limit_in}
-use Rattle.bd_tables.specs.declared.request.Completion.{Completion}
 use Rattle.bd_tables.specs.declared.request.Request.{Request}
 use Rattle.bd_tables.specs.declared.state.Right.{Right}
-use Rattle.bd_tables.specs.declared.state.Walk.{Walk}
-use Rattle.bd_tables.specs.declared.state.Walk.TheVariants.{Translated}
-use Rattle.bd_tables.specs.Sound.{IsOfEntry, OnRight, granted_of}
+use Rattle.bd_tables.specs.Sound.{IsOfEntry}
 use Rattle.bd_tables.specs.State.{TableState, cell_of, lookup, lookup_under, request_of, walk_at}
 use Rattle.bd_turns.specs.Names.{HeldTranslationsAreCurrent, IsCurrent, by_engine, by_line}
 use Rattle.bd_turns.specs.Reached.{IsReached}

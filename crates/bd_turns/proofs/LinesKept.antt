@@ -1,5 +1,5 @@
 -- Each line of the cache stays one about a block of the part of its key.
-use Rattle.std.proofs.Common.{◌≡◌, ℕ, zero, suc, ◌/◌, cond, Bool, true, false, List, [], ◌∷◌, set, Option, None, Some, refl, sym, ap, ◌∙◌, subst}
+use Rattle.std.proofs.Common.{◌≡◌, ℕ, zero, suc, ◌/◌, cond, Bool, true, false, List, [], ◌∷◌, set, Option, None, Some, refl, sym, subst}
 use Rattle.std.specs.Option.{option_map_or}
 use Rattle.std.proofs.lemmas.Option.{none-some, same_Some}
 use Rattle.bd_base.specs.declared.key.Cell.{Cell}

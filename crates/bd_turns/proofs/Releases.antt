@@ -1,12 +1,11 @@
 -- A block that is released is one that no held translation names.
-use Rattle.std.proofs.Common.{◌≡◌, ℕ, ◌<◌, ◌*◌, ◌-◌, cond, Bool, true, false, not, nat_eq, List, [], ◌∷◌, ◌++◌, length, position, slice_get, slice_index, Option, None, Some, arith, refl, sym, ap, ◌∙◌, subst}
+use Rattle.std.proofs.Common.{◌≡◌, ℕ, ◌*◌, ◌-◌, cond, Bool, true, false, not, nat_eq, List, [], ◌∷◌, length, position, slice_get, Option, None, Some, arith, refl, sym, ap, ◌∙◌, subst}
 use Rattle.std.specs.Prelude.{nat_lt}
 use Rattle.std.specs.FinMap as fin
 use Rattle.std.specs.Option.{option_and_then, option_map_or}
 use Rattle.std.proofs.lemmas.Bool.{both_ways, false≢true}
 use Rattle.std.proofs.lemmas.Option.{get_or_from_slice_get, none-some, slice_get_within}
 use Rattle.bd_base.specs.declared.journal.At.{At}
-use Rattle.bd_base.specs.declared.key.Key.{Key}
 use Rattle.bd_base.specs.declared.volume.Inode.{Inode}
 use Rattle.bd_base.specs.declared.volume.Volume.{Volume}
 use Rattle.bd_base.specs.Inodes.{blocks_of_slot}
@@ -25,7 +24,7 @@ use Rattle.bd_tables.specs.State.{TableState, engines_in}
 use Rattle.bd_turns.specs.declared.turn.Row.{Row}
 use Rattle.bd_turns.specs.declared.turn.Row.TheVariants as rows
 use Rattle.bd_turns.specs.declared.turn.Turn.{Turn}
-use Rattle.bd_turns.specs.declared.turn.Turn.TheVariants.{Did, Idle, Waits}
+use Rattle.bd_turns.specs.declared.turn.Turn.TheVariants.{Did}
 use Rattle.bd_turns.specs.declared.turn.Wait.TheVariants as waits
 use Rattle.bd_turns.specs.Added.{IsAdded, by_processor}
 use Rattle.bd_turns.specs.Engines as engines
@@ -35,7 +34,7 @@ use Rattle.bd_turns.specs.Processors as processors
 use Rattle.bd_turns.specs.Processors.{Action, next_action, row_of_entry}
 use Rattle.bd_turns.specs.Reached.{IsReached}
 use Rattle.bd_turns.specs.State.{Posted, State, running}
-use Rattle.bd_turns.specs.Turns.{Outcome, Nothing, Waiting, Acting, after_adding, after_step, answer_in, answer_of, engine_outcome, entries_added, invalidation_outcome, outcome_of, outcome_of_action, outcome_of_invalidation, posting_place, process_count, processor_outcome, state_after}
+use Rattle.bd_turns.specs.Turns.{Outcome, Nothing, Acting, after_adding, answer_in, engine_outcome, entries_added, invalidation_outcome, outcome_of, outcome_of_action, outcome_of_invalidation, posting_place, process_count, processor_outcome, state_after}
 use Rattle.bd_turns.proofs.AddedEntries.{added_keeps}
 use Rattle.bd_turns.proofs.Cases.{running_there}
 use Rattle.bd_turns.proofs.EngineStepsOfTables.{IsStep, completes, engine_steps, enters, fills, looks, misses, moves, reads, retires}

@@ -1,5 +1,5 @@
 -- The entries that turns add, and what is known of them.
-use Rattle.std.specs.Prelude.{◌≡◌, ℕ, false, Some}
+use Rattle.std.specs.Prelude.{◌≡◌, false, Some}
 use Rattle.bd_base.specs.declared.volume.Volume.{Volume}
 use Rattle.bd_entry.specs.declared.entry.Entry.{Entry}
 use Rattle.bd_entry.specs.Calls.{Place, at_of, is_ended_by}

@@ -1,8 +1,7 @@
 -- What holds of the abstract machine at every moment, and the laws of its turns.
-use Rattle.std.specs.Prelude.{◌≡◌, ◌≢◌, ◌⊎◌, ℕ, ◌<◌, ◌≤◌, ◌/◌, nat_eq, Bool, true, false, ◌||◌, List, [], ◌∷◌, ◌++◌, map, length, count_by, slice_get, IsSome, IsTrue, All, Option, None, Some}
+use Rattle.std.specs.Prelude.{◌≡◌, ◌≢◌, ◌⊎◌, ℕ, ◌<◌, ◌≤◌, ◌/◌, nat_eq, Bool, true, false, ◌||◌, List, [], length, count_by, slice_get, IsSome, IsTrue, All, Option, None, Some}
 use Rattle.std.specs.List.{list_any}
 use Rattle.std.specs.FinMap as fin
-use Rattle.bd_base.specs.declared.journal.At.{At}
 use Rattle.bd_base.specs.declared.journal.Found.{Found}
 use Rattle.bd_base.specs.declared.journal.Found.TheVariants.{NoDirectory}
 use Rattle.bd_base.specs.declared.key.Cell.{Cell}
@@ -10,7 +9,6 @@ use Rattle.bd_base.specs.declared.key.Key.{Key}
 use Rattle.bd_base.specs.declared.limits.TheConstants.{PART_BLOCKS}
 use Rattle.bd_base.specs.declared.script.Call.{Call}
 use Rattle.bd_base.specs.declared.script.Call.TheVariants.{Enter, Read, Truncate}
-use Rattle.bd_base.specs.declared.script.Script.{Script}
 use Rattle.bd_base.specs.Keys.{Pair, same_key}
 use Rattle.bd_base.specs.Scripts.{IsWithinLimits}
 use Rattle.bd_entry.specs.declared.entry.Entry.{Entry}
@@ -51,8 +49,8 @@ is_revoked states.On = false
 is_revoked states.Cleared = true
 is_revoked (states.Drained swept) = true
 
--- a right of the tables is the one of the descriptor in the store: attached, of its file, in its mode, and cleared there
--- exactly where it is revoked
+-- a right of the tables is the one of the descriptor in the store: attached, of its file, in its mode, and cleared
+-- there exactly where it is revoked
 pub record IsRightOf (key : Key) (right : Right) (d : Descriptor) : Type 0 where
   pub file : right.file ≡ d.file
   pub write : right.write ≡ may_write d.mode
@@ -193,17 +191,18 @@ AreRevokedByHolders m =
 -- of the rights that are revoked on one file at most one is not posted: the one that its call cleared last
 abbrev pub IsOneUnposted : State → Type 0
 IsOneUnposted m =
-    (first second : Key) (a b : Right) → fin.get m.tables.rights first ≡ Some a → fin.get m.tables.rights second ≡ Some b →
-    a.file ≡ b.file → is_revoked a.state ≡ true → is_revoked b.state ≡ true → is_posted m.posted first ≡ false →
-    is_posted m.posted second ≡ false → first ≡ second
+    (first second : Key) (a b : Right) → fin.get m.tables.rights first ≡ Some a →
+    fin.get m.tables.rights second ≡ Some b → a.file ≡ b.file → is_revoked a.state ≡ true →
+    is_revoked b.state ≡ true → is_posted m.posted first ≡ false → is_posted m.posted second ≡ false →
+    first ≡ second
 
 -- ---- holds
 
 -- no file is held by two processes
 abbrev pub IsHeldOnce : State → Type 0
 IsHeldOnce m =
-    (file first second : ℕ) → does_hold file (progress_of m first) ≡ true → does_hold file (progress_of m second) ≡ true →
-    first ≡ second
+    (file first second : ℕ) → does_hold file (progress_of m first) ≡ true →
+    does_hold file (progress_of m second) ≡ true → first ≡ second
 
 -- a process that holds a file has a running call, whose file that is
 abbrev pub AreHoldsOfCalls : State → Type 0
@@ -337,9 +336,9 @@ pub record HasProcesses (m : State) : Type 0 where
   pub walks : length m.tables.walks ≡ process_count m
   pub ended : (process : ℕ) → (progress_of m process).ended ≤ length (calls_of m.script process)
 
--- the script, the processes and the store. Entries are legal, and a legal entry keeps a store valid; a call ends once its
--- entries end it and none of its commands is left, and only then comes the next. A call that is refused as a whole ends at
--- once; one that cleared a right holds its file to the end, so nobody else closes that descriptor meanwhile.
+-- the script, the processes and the store. Entries are legal, and a legal entry keeps a store valid; a call ends once
+-- its entries end it and none of its commands is left, and only then comes the next. A call that is refused as a whole
+-- ends at once; one that cleared a right holds its file to the end, so nobody else closes that descriptor meanwhile.
 pub record AreCallsSound (m : State) : Type 0 where
   pub limits : IsWithinLimits m.script
   pub processes : HasProcesses m
@@ -351,12 +350,12 @@ pub record AreCallsSound (m : State) : Type 0 where
   pub unrefused : AreUnrefused m
   pub clears_held : AreClearsHeld m
 
--- the tables and the engines. An Attach, a Clear and a DetachDone change the store and the tables alike; an Attach hands
--- in the cells of the file's blocks, a growth fills or raises them in the same turn, and no block of a file goes while a
--- right on it is attached. The effects of the tables keep them sound: who is granted has a right that is not drained,
--- what is held or cached is an entry, and after its sweep no line names a drained key, since a fill needs an engine that
--- is granted. What a walk missed for stays so until it is noted, since a right that is not there when a piece enters does
--- not come while its process's call runs, and the known size stays too.
+-- the tables and the engines. An Attach, a Clear and a DetachDone change the store and the tables alike; an Attach
+-- hands in the cells of the file's blocks, a growth fills or raises them in the same turn, and no block of a file goes
+-- while a right on it is attached. The effects of the tables keep them sound: who is granted has a right that is not
+-- drained, what is held or cached is an entry, and after its sweep no line names a drained key, since a fill needs an
+-- engine that is granted. What a walk missed for stays so until it is noted, since a right that is not there when a
+-- piece enters does not come while its process's call runs, and the known size stays too.
 pub record AreTablesSound (m : State) : Type 0 where
   pub rights : AreRightsOf m
   pub lookups : AreLookupsOf m
