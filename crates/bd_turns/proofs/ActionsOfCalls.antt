@@ -109,7 +109,7 @@ pub record IsPassed (m : State) (p : Place) : Type 0 where
   pub passed : cond (has_begun (running_of m p)) None
       (before_beginning m.store (holder_of m) p (first_refusal m.store p.at.process p.call)) ≡ None
 
-beginning_none : (s : Store) (holders : Holders) (p : Place) (o : Option Reason) → before_beginning s holders p o ≡ None →
+pub beginning_none : (s : Store) (holders : Holders) (p : Place) (o : Option Reason) → before_beginning s holders p o ≡ None →
     (o ≡ None) × (busy_at_first s holders p ≡ None)
 beginning_none s holders p None none = (refl, none)
 beginning_none s holders p (Some reason) none = absurd (by (comes_before_holder reason) none)

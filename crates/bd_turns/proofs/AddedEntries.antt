@@ -30,7 +30,7 @@ use Rattle.bd_turns.specs.Added.{IsAdded}
 use Rattle.bd_turns.specs.Processors as processors
 use Rattle.bd_turns.specs.Processors.{Action, action_for, add_entry, clear, is_on, next_action, poll, post, revocation, row_of_entry, running_of, uncleared, unposted}
 use Rattle.bd_turns.specs.State.{Progress, State, holder_of, outstanding, progress_of}
-use Rattle.bd_turns.proofs.HandFrames.{is_place}
+use Rattle.bd_turns.proofs.RunningPlaces.{runs_at}
 
 -- ---- the place of an added entry
 
@@ -47,7 +47,7 @@ added_keeps v m p e added rule =
 -- and is one of its call
 pub added_of_call : (v : Volume) (m : State) (p : Place) (e : Entry) → IsAdded v m p e → IsOfCall p e
 added_of_call v m p e added =
-    let place = is_place m p.at.process p added.running_is in
+    let place = runs_at m p.at.process p added.running_is in
     let at = at_of e in
     let fits = added.next.fits FitsCall in
     let at_call : call_at m.script at ≡ Some p.call = added.next.call_is in

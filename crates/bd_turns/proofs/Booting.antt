@@ -18,7 +18,7 @@ use Rattle.bd_entry.specs.Store.{start_store}
 use Rattle.bd_entry.proofs.HistoryLaws.{is_call}
 use Rattle.bd_entry.proofs.StoreLaws.{start_is_valid}
 use Rattle.bd_tables.specs.declared.state.Walk.TheVariants as walks
-use Rattle.bd_turns.proofs.HoldsAtBoot.{holds_at_boot}
+use Rattle.bd_turns.proofs.HoldsAtBoot.{all_new, holds_at_boot}
 use Rattle.bd_turns.proofs.KeptCommands.{no_commands}
 use Rattle.bd_turns.proofs.RunningPlaces.{runs_at}
 use Rattle.bd_turns.proofs.StayingDescriptors.{none_unended}
@@ -26,14 +26,6 @@ use Rattle.bd_turns.proofs.TablesAtBoot.{tables_at_boot}
 use Rattle.bd_turns.specs.Reached.{BootIsReached}
 use Rattle.bd_turns.specs.Sound.{AreCallsSound, is_clear_at}
 use Rattle.bd_turns.specs.State.{Progress, State, boot_state, has_ended, new_progress, outstanding, progress_of, running}
-
--- every process is at its start
-all_new : (processes : List Process) (process : ℕ) →
-    let new : Process → Progress = λ p. new_progress in
-    get_or (map new processes) process new_progress ≡ new_progress
-all_new [] process = refl
-all_new (p ∷ processes) zero = refl
-all_new (p ∷ processes) (suc process) = all_new processes process
 
 module _ (v : Volume) (script : Script) (sound : IsSoundVolume v) (limits : IsWithinLimits script) where
   -- the state before the first turn

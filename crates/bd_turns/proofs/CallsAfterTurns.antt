@@ -14,33 +14,20 @@ use Rattle.bd_entry.specs.Calls.{Place, at_of, call_at, entries_of, is_ended_by,
 use Rattle.bd_entry.proofs.CallOrder.{entries_of-joined, entries_of-other, other_process, same_self}
 use Rattle.bd_entry.proofs.HistoryLaws.{process_there}
 use Rattle.bd_entry.proofs.NextActs.{map_from}
+use Rattle.bd_turns.proofs.Cases.{running_process}
+pub use Rattle.bd_turns.proofs.RunningPlaces.{RunsAt, runs_at}
 use Rattle.bd_turns.specs.Sound.{AreCallsSound, HasProcesses}
 use Rattle.bd_turns.specs.State.{Progress, State, has_ended, outstanding, place_of, progress_of, running, running_at, with_progress}
 use Rattle.bd_turns.specs.Turns.{after_effect, with_call_ended, with_turn_used}
 
 -- ---- the place of a running call
 
--- the place is that of the first call of the process that has not ended, with its entries so far
-pub record RunsAt (m : State) (process : ℕ) (p : Place) : Type 0 where
-  pub at_is : p.at ≡ running_at m process
-  pub called : call_at m.script p.at ≡ Some p.call
-  pub before_is : p.before ≡ entries_of p.at m.journal
-
-pub runs_at : (m : State) (process : ℕ) (p : Place) → running m process ≡ Some p → RunsAt m process p
-runs_at m process p is =
-    let found = map_from (place_of m (running_at m process)) (call_at m.script (running_at m process)) p is in
-    subst (RunsAt m process) found.2 (record { at_is = refl; called = found.1; before_is = refl })
-
--- it is of that process
-pub runs_of : (m : State) (process : ℕ) (p : Place) → running m process ≡ Some p → p.at.process ≡ process
-runs_of m process p is = ap (λ (at : At). at.process) (runs_at m process p is).at_is
-
 -- the process is one of the machine
 pub runs_within : (m : State) (process : ℕ) (p : Place) → HasProcesses m → running m process ≡ Some p → process < length m.processes
 runs_within m process p has is =
     let at = runs_at m process p is in
     let there : p.at.process < length m.script.processes = process_there m.script p.at p.call at.called in
-    let same : p.at.process ≡ process = runs_of m process p is in
+    let same : p.at.process ≡ process = running_process m process p is in
     let count : length m.processes ≡ length m.script.processes = has.progress in
     omega arith
 

@@ -2,7 +2,7 @@
 use Rattle.std.proofs.Common.{◌≡◌, ℕ, ◌*◌, ◌-◌, Bool, true, false, Option, None, Some, cond, refl, sym, ap, ◌∙◌}
 use Rattle.std.specs.Prelude.{nat_lt}
 use Rattle.std.proofs.lemmas.Option.{none-some, same_Some}
-use Rattle.std.specs.Option.{option_map, option_map_or}
+use Rattle.std.specs.Option.{option_map, option_map_or, option_to_list}
 use Rattle.bd_entry.specs.declared.entry.Entry.{Entry}
 use Rattle.bd_entry.specs.Calls.{Place, call_at}
 use Rattle.bd_tables.specs.State.{TableState}
@@ -12,7 +12,71 @@ use Rattle.bd_turns.specs.Engines.{Invalidation, Step, engine_step, invalidation
 use Rattle.bd_turns.specs.Processors as processors
 use Rattle.bd_turns.specs.Processors.{Action, next_action}
 use Rattle.bd_turns.specs.State.{State, place_of, running, running_at}
-use Rattle.bd_turns.specs.Turns.{Outcome, Nothing, after_adding, after_effect, after_ending, after_polling, after_posting, after_step, after_submitting, after_turn, engine_outcome, invalidation_outcome, outcome_of_action, outcome_of_invalidation, posting_place, process_count, processor_outcome, state_after}
+use Rattle.bd_turns.specs.Turns.{Outcome, Nothing, Acting, outcome_of, after_adding, after_effect, after_ending, after_polling, after_posting, after_step, after_submitting, after_turn, engine_outcome, invalidation_outcome, outcome_of_action, outcome_of_invalidation, posting_place, process_count, processor_outcome, state_after}
+
+-- ---- the running call of a process
+
+-- the place of the running call of a process is of that process
+pub running_process : (m : State) (process : ℕ) (p : Place) → running m process ≡ Some p → p.at.process ≡ process
+running_process m process p is = by (call_at m.script (running_at m process)) is
+  where
+    by : (call : Option _) → option_map (place_of m (running_at m process)) call ≡ Some p → p.at.process ≡ process
+    by None is = absurd (none-some p is)
+    by (Some call) is =
+        sym (ap (λ (q : Place). q.at.process) (same_Some (place_of m (running_at m process) call) p is))
+
+-- the running call of a process, at a place of that process
+pub running_there : (m : State) (process : ℕ) (p : Place) → running m process ≡ Some p → running m p.at.process ≡ Some p
+running_there m process p is = ap (running m) (running_process m process p is) ∙ is
+
+-- ---- the outcome of each kind of turn
+
+-- this holds of an outcome of nothing, and of that of each kind of turn
+pub record EachOutcome (m : State) (Holds : Outcome → Type 0) : Type 0 where
+  pub nothing : Holds Nothing
+  pub action : (p : Place) → running m p.at.process ≡ Some p → (action : Action) → next_action m p ≡ Some action →
+      Holds (outcome_of_action m p action)
+  pub step : (p : Place) → running m p.at.process ≡ Some p → (step : Step) → engine_step m p ≡ Some step →
+      Holds (Acting step.row (after_step m p step) (option_to_list step.entry))
+  pub invalidation : (p : Place) → posting_place m ≡ Some p → (invalidation : Invalidation) →
+      invalidation_of m.tables m.posted ≡ Some invalidation → Holds (outcome_of_invalidation m p invalidation)
+
+of_option : {X : Type 0} (Holds : Outcome → Type 0) → Holds Nothing → (f : X → Outcome) (slot : Option X) →
+    ((x : X) → slot ≡ Some x → Holds (f x)) → Holds (option_map_or f slot Nothing)
+of_option Holds nothing f None each = nothing
+of_option Holds nothing f (Some x) each = each x refl
+
+of_cond : (Holds : Outcome → Type 0) (first : Bool) (one other : Outcome) → Holds one → Holds other → Holds (cond first one other)
+of_cond Holds true one other a b = a
+of_cond Holds false one other a b = b
+
+-- then it holds of the outcome of each actor
+module _ (m : State) (Holds : Outcome → Type 0) (each : EachOutcome m Holds) where
+  of_processor : (process : ℕ) → Holds (processor_outcome m process)
+  of_processor process =
+      of_option Holds each.nothing (λ p. option_map_or (outcome_of_action m p) (next_action m p) Nothing) (running m process)
+      (λ p is. of_option Holds each.nothing (outcome_of_action m p) (next_action m p) (each.action p (running_there m process p is)))
+
+  of_engine : (process : ℕ) → Holds (engine_outcome m process)
+  of_engine process =
+      let after : Place → Step → Outcome = λ p step. Acting step.row (after_step m p step) (option_to_list step.entry) in
+      of_option Holds each.nothing (λ p. option_map_or (after p) (engine_step m p) Nothing) (running m process)
+      (λ p is. of_option Holds each.nothing (after p) (engine_step m p) (each.step p (running_there m process p is)))
+
+  of_invalidations : Holds (invalidation_outcome m)
+  of_invalidations =
+      of_option Holds each.nothing (λ p. option_map_or (outcome_of_invalidation m p) (invalidation_of m.tables m.posted) Nothing) (posting_place m)
+      (λ p is. of_option Holds each.nothing (outcome_of_invalidation m p) (invalidation_of m.tables m.posted) (each.invalidation p is))
+
+  pub each_outcome : (actor : ℕ) → Holds (outcome_of m actor)
+  each_outcome actor =
+      let engine : ℕ = actor - process_count m in
+      let is_engine : Bool = nat_lt actor (2 * process_count m) in
+      of_cond Holds (nat_lt actor (process_count m)) (processor_outcome m actor)
+      (cond is_engine (engine_outcome m engine) (invalidation_outcome m)) (of_processor actor)
+      (of_cond Holds is_engine (engine_outcome m engine) (invalidation_outcome m) (of_engine engine) of_invalidations)
+
+-- ---- effective turns
 
 -- the state that each kind of effective turn leads to
 pub data Effective (m : State) : State → Type 0 where
@@ -40,25 +104,6 @@ pub data Leads (m next : State) : Type 0 where
   stays : next ≡ m → Leads m next
   acts : Effective m next → Leads m next
 
--- the place of the running call of a process is of that process
-pub running_process : (m : State) (process : ℕ) (p : Place) → running m process ≡ Some p → p.at.process ≡ process
-running_process m process p is = by (call_at m.script (running_at m process)) is
-  where
-    by : (call : Option _) → option_map (place_of m (running_at m process)) call ≡ Some p → p.at.process ≡ process
-    by None is = absurd (none-some p is)
-    by (Some call) is =
-        sym (ap (λ (q : Place). q.at.process) (same_Some (place_of m (running_at m process) call) p is))
-
-of_option : {X : Type 0} (m : State) (f : X → Outcome) (slot : Option X) →
-    ((x : X) → slot ≡ Some x → Leads m (state_after m (f x))) → Leads m (state_after m (option_map_or f slot Nothing))
-of_option m f None each = stays refl
-of_option m f (Some x) each = each x refl
-
-of_cond : (m : State) (first : Bool) (one other : Outcome) → Leads m (state_after m one) →
-    Leads m (state_after m other) → Leads m (state_after m (cond first one other))
-of_cond m true one other a b = a
-of_cond m false one other a b = b
-
 of_action : (m : State) (p : Place) → running m p.at.process ≡ Some p → (action : Action) →
     next_action m p ≡ Some action → Leads m (state_after m (outcome_of_action m p action))
 of_action m p is (processors.Adds row entry) acting = acts (adds p row entry is acting)
@@ -74,27 +119,13 @@ of_invalidation m p is (engines.Changes row tables) acting = acts (changes p row
 of_invalidation m p is (engines.Ends entry tables) acting = acts (ends p entry tables is acting)
 of_invalidation m p is (engines.WaitsFor wait) acting = stays refl
 
--- the running call of a process, at a place of that process
-pub running_there : (m : State) (process : ℕ) (p : Place) → running m process ≡ Some p → running m p.at.process ≡ Some p
-running_there m process p is = ap (running m) (running_process m process p is) ∙ is
-
-processor_leads : (m : State) (process : ℕ) → Leads m (state_after m (processor_outcome m process))
-processor_leads m process =
-    of_option m (λ p. option_map_or (outcome_of_action m p) (next_action m p) Nothing) (running m process)
-    (λ p is. of_option m (outcome_of_action m p) (next_action m p) (of_action m p (running_there m process p is)))
-
-engine_leads : (m : State) (process : ℕ) → Leads m (state_after m (engine_outcome m process))
-engine_leads m process =
-    of_option m _ (running m process)
-    (λ p is. of_option m _ (engine_step m p) (λ step acting. acts (steps p step (running_there m process p is) acting)))
-
-invalidation_leads : (m : State) → Leads m (state_after m (invalidation_outcome m))
-invalidation_leads m =
-    of_option m _ (posting_place m)
-    (λ p is. of_option m (outcome_of_invalidation m p) (invalidation_of m.tables m.posted) (of_invalidation m p is))
-
 -- a turn leaves the state or is one of the effective ones
 pub turn_leads : (m : State) (actor : ℕ) → Leads m (after_turn m actor)
-turn_leads m actor =
-    of_cond m (nat_lt actor (process_count m)) _ _ (processor_leads m actor)
-    (of_cond m (nat_lt actor (2 * process_count m)) _ _ (engine_leads m (actor - process_count m)) (invalidation_leads m))
+turn_leads m =
+    each_outcome m (λ (o : Outcome). Leads m (state_after m o))
+    (record {
+      nothing = stays refl;
+      action = of_action m;
+      step = λ p is step acting. acts (steps p step is acting);
+      invalidation = of_invalidation m;
+    })

@@ -8,27 +8,25 @@ use Rattle.bd_turns.specs.Sound.{AreCallsSound, AreHoldsSound, AreTablesSound}
 use Rattle.bd_turns.specs.State.{State}
 use Rattle.bd_turns.specs.Turns.{after_turn}
 
+-- each turn of any actor leaves it so
+abbrev pub TurnsKeep : (Volume → State → Type 0) → Type 0
+TurnsKeep Holds =
+    (v : Volume) (m : State) (actor : ℕ) → IsReached v m → EntriesAreNext v m → IsActor m actor →
+    Holds v (after_turn m actor)
+
 -- it leaves the calls sound: they come one after the other, each ends with no command left, and the commands of the
 -- running ones are of their pieces
 abbrev pub TurnsKeepCalls : Type 0
-TurnsKeepCalls =
-    (v : Volume) (m : State) (actor : ℕ) → IsReached v m → EntriesAreNext v m → IsActor m actor →
-    AreCallsSound (after_turn m actor)
+TurnsKeepCalls = TurnsKeep (λ v next. AreCallsSound next)
 
 -- the rights, the cells and the walks of the tables stay those of the store and of the commands
 abbrev pub TurnsKeepTables : Type 0
-TurnsKeepTables =
-    (v : Volume) (m : State) (actor : ℕ) → IsReached v m → EntriesAreNext v m → IsActor m actor →
-    AreTablesSound (after_turn m actor)
+TurnsKeepTables = TurnsKeep (λ v next. AreTablesSound next)
 
 -- so does what is so of holds, of the rights that are revoked and of the posted requests
 abbrev pub TurnsKeepHolds : Type 0
-TurnsKeepHolds =
-    (v : Volume) (m : State) (actor : ℕ) → IsReached v m → EntriesAreNext v m → IsActor m actor →
-    AreHoldsSound (after_turn m actor)
+TurnsKeepHolds = TurnsKeep (λ v next. AreHoldsSound next)
 
 -- and the journal is a history of the script, which leads to the store
 abbrev pub TurnsKeepHistory : Type 0
-TurnsKeepHistory =
-    (v : Volume) (m : State) (actor : ℕ) → IsReached v m → EntriesAreNext v m → IsActor m actor →
-    let next = after_turn m actor in IsHistory v next.script next.journal next.store
+TurnsKeepHistory = TurnsKeep (λ v next. IsHistory v next.script next.journal next.store)

@@ -60,7 +60,7 @@ module _ (v : Volume) (m done : State) (p : Place) (o : Option Entry) (progress 
   abbrev next : State
   next = after_effect done p
 
-  runs : RunsAt m p
+  runs : RunsAt m process p
   runs = runs_at m process p is.running_is
 
   -- the process is one of the script
@@ -140,9 +140,7 @@ module _ (v : Volume) (m done : State) (p : Place) (o : Option Entry) (progress 
   own_at : (after : Progress) (q : Place) → progress_of next process ≡ after → running next process ≡ Some q →
       q.at ≡ numbered process after.ended
   own_at after q progress_is runs_next =
-      let same : q.at.process ≡ process = running_process next process q runs_next in
-      (runs_at next process q runs_next).at_is ∙ ap (running_at next) same
-      ∙ ap (λ (x : Progress). numbered process x.ended) progress_is
+      (runs_at next process q runs_next).at_is ∙ ap (λ (x : Progress). numbered process x.ended) progress_is
 
   -- its place after the turn
   called_next : (q : Place) → running next process ≡ Some q → call_at m.script q.at ≡ Some q.call

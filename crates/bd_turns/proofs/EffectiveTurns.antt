@@ -31,6 +31,7 @@ use Rattle.bd_turns.specs.Reached.{IsReached}
 use Rattle.bd_turns.specs.Sound.{keeps_allowed}
 use Rattle.bd_turns.specs.State.{Progress, State, has_ended, outstanding, progress_of, running, with_progress}
 use Rattle.bd_turns.specs.Turns.{after_adding, after_effect, after_ending, after_polling, after_posting, after_step, after_submitting, holds_after, holds_throughout, tables_after, with_entry, with_entry_if_any, with_hold}
+use Rattle.bd_turns.proofs.StayingDescriptors.{ended_by_end, whole_ends}
 use Rattle.bd_turns.proofs.ActionsOfCalls.{Ahead, AloneOn, ahead, no_commands, passed-allowed, passed-alone, throughout-no_pieces}
 use Rattle.bd_turns.proofs.CallsAfterTurns.{Follows, Prepares, follows, runs_within}
 use Rattle.bd_turns.proofs.EngineSteps.{is_of_device, step_keeps}
@@ -65,22 +66,6 @@ pub record Turned (v : Volume) (m next : State) (p : Place) (entry : Option Entr
   pub going : has_ended p.call (p.before ++ option_to_list entry) g ≡ false → IsGoing m p entry g
 
 -- ---- refusals of whole calls end them
-
-whole_ends : (call : Call) (e : Entry) → is_whole_refusal e ≡ true → is_end_of call e ≡ true
-whole_ends call (entries.Refused at None reason) whole = refl
-whole_ends call e whole = absurd (false≢true whole)
-
--- an entry that ends the call alone ends it after any others
-pub ended_by_end : (call : Call) (before : List Entry) (e : Entry) → is_end_of call e ≡ true → is_ended_by call (before ++ e ∷ []) ≡ true
-ended_by_end call before e ends =
-    by call
-    (list_any-append (is_end_of call) before (e ∷ [])
-    ∙ or_right (list_any (is_end_of call) before) (list_any (is_end_of call) (e ∷ [])) (or_left (is_end_of call e) false ends))
-  where
-    by : (c : Call) → list_any (is_end_of c) (before ++ e ∷ []) ≡ true → is_ended_by c (before ++ e ∷ []) ≡ true
-    by (Read fd off len) any = or_left _ _ any
-    by (Write fd off bytes) any = or_left _ _ any
-    by c any = any
 
 -- a call with an end among its entries and without commands has ended
 pub has_ended-by_end : (call : Call) (before : List Entry) (e : Entry) (g : Progress) → is_end_of call e ≡ true → outstanding g ≡ [] →

@@ -38,6 +38,7 @@ use Rattle.bd_turns.specs.Reached.{IsReached}
 use Rattle.bd_turns.specs.Sound.{IsRightOf, is_clear, is_clear_at, is_release, keeps_allowed}
 use Rattle.bd_turns.specs.State.{Progress, State, has_ended, outstanding, progress_of, running}
 use Rattle.bd_turns.specs.Turns.{holds_throughout}
+use Rattle.bd_turns.proofs.ClearingCalls.{any-weaker}
 use Rattle.bd_turns.proofs.ActionsOfCalls.{no_commands, throughout-no_pieces}
 use Rattle.bd_turns.proofs.CallsAfterTurns.{Ends}
 use Rattle.bd_turns.proofs.EffectiveTurns.{Turned}
@@ -69,15 +70,6 @@ last_is_end call before e through running ended = absurd (false≢true through)
 pub clear_at-clears : (key : Key) (e : Entry) → is_clear_at key e ≡ true → is_clear e ≡ true
 clear_at-clears key (entries.Cleared at owner fd part) is = refl
 clear_at-clears key e is = absurd (false≢true is)
-
-any-wider : {X : Type 0} (test wider : X → Bool) (xs : List X) → ((x : X) → test x ≡ true → wider x ≡ true) → list_any test xs ≡ true →
-    list_any wider xs ≡ true
-any-wider test wider [] passes some = absurd (false≢true some)
-any-wider test wider (x ∷ xs) passes some =
-    ⊎_elim
-    (λ here. or_left (wider x) (list_any wider xs) (passes x here))
-    (λ later. or_right (wider x) (list_any wider xs) (any-wider test wider xs passes later))
-    (or_cases (test x) (list_any test xs) some)
 
 module _ (v : Volume) (m next : State) (p : Place) (entry : Option Entry) (g : Progress) (reached : IsReached v m) (t : Turned v m next p entry g) where
   abbrev process : ℕ
@@ -204,7 +196,7 @@ module _ (v : Volume) (m next : State) (p : Place) (entry : Option Entry) (g : P
     still_lowers : (fd size : ℕ) → p.call ≡ Truncate fd size → size < size_in m.store right.file
     still_lowers fd size call =
         let truncating = reached.sound.holds_are.truncating process p fd size t.runs call in
-        let some_clear : list_any is_clear p.before ≡ true = any-wider (is_clear_at key) is_clear p.before (clear_at-clears key) cleared in
+        let some_clear : list_any is_clear p.before ≡ true = any-weaker (is_clear_at key) is_clear p.before (clear_at-clears key) cleared in
         ⊎_elim
         (λ released. absurd (some_rights (keys_on-none m.store right.file (truncating.without_rights released right.file revoking-file))))
         (λ unreleased. truncating.lowers some_clear unreleased right.file revoking-file)

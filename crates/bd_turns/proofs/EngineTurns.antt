@@ -29,6 +29,7 @@ use Rattle.bd_turns.proofs.Cases.{Effective, Leads, turn_leads}
 use Rattle.bd_turns.proofs.ClearingCalls.{clears_key}
 use Rattle.bd_turns.proofs.DoneTurns.{IsDone, grown}
 use Rattle.bd_turns.proofs.EngineStepsOfCalls.{at_none, step_access, step_all, step_commands, step_ended, step_held, step_is}
+use Rattle.bd_turns.proofs.HandsOfSteps.{entry_processes, entry_script}
 use Rattle.bd_turns.proofs.GrowingHistories.{history_kept}
 use Rattle.bd_turns.proofs.KeptCommands.{no_commands}
 use Rattle.bd_turns.proofs.LegalActs.{none_without_pieces, pieces_outstanding}
@@ -85,15 +86,6 @@ abbrev SoundAfter : Volume → State → Type 0
 SoundAfter v next = IsHistory v next.script next.journal next.store → AreCallsSound next
 
 -- ---- device engines
-
--- an entry changes neither the script nor how far the processes are
-entry_script : (m : State) (p : Place) (o : Option Entry) → (with_entry_if_any m p o).script ≡ m.script
-entry_script m p None = refl
-entry_script m p (Some e) = refl
-
-entry_processes : (m : State) (p : Place) (o : Option Entry) → (with_entry_if_any m p o).processes ≡ m.processes
-entry_processes m p None = refl
-entry_processes m p (Some e) = refl
 
 steps_sound : (v : Volume) (m : State) (p : Place) (step : Step) → IsReached v m → running m p.at.process ≡ Some p →
     engine_step m p ≡ Some step → ((e : Entry) → step.entry ≡ Some e → IsAdded v m p e) → SoundAfter v (after_step m p step)

@@ -105,20 +105,3 @@ runs_still m next q after script ended is =
       ap (option_map (place_of m (running_at m q))) call_is,
       record { call = ap (λ (x : Place). x.call) found.2; at = sym at_is ∙ ap (λ (x : Place). x.at) found.2 },
     )
-
--- the place of a running call is of its process, and has the entries that the journal has of it
-pub record IsPlaceOf (m : State) (q : ℕ) (p : Place) : Type 0 where
-  pub at_is : p.at ≡ running_at m q
-  pub call_is : call_at m.script p.at ≡ Some p.call
-  pub before_is : p.before ≡ entries_of p.at m.journal
-
-pub is_place : (m : State) (q : ℕ) (p : Place) → running m q ≡ Some p → IsPlaceOf m q p
-is_place m q p is =
-    let found = map_from (place_of m (running_at m q)) (call_at m.script (running_at m q)) p is in
-    let at_is : p.at ≡ running_at m q = sym (ap (λ (x : Place). x.at) found.2) in
-    record {
-      at_is = at_is;
-      call_is = ap (call_at m.script) at_is ∙ found.1 ∙ ap (λ (x : Place). Some x.call) found.2;
-      before_is =
-          sym (ap (λ (x : Place). x.before) found.2) ∙ ap (λ (a : At). entries_of a m.journal) (sym at_is);
-    }

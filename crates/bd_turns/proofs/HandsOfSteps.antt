@@ -164,11 +164,12 @@ pub record StepsTo (m : State) (p : Place) (step : Step) (next : State) : Type 0
   pub ended : (q : ℕ) (hand : InHand) → (progress_of next q).hand ≡ Some hand → (progress_of next q).ended ≡ (progress_of m q).ended
   pub walks : next.tables.walks ≡ step.tables.walks
 
-entry_processes : (m : State) (p : Place) (entry : Option Entry) → (with_entry_if_any m p entry).processes ≡ m.processes
+-- an entry changes neither the script nor how far the processes are
+pub entry_processes : (m : State) (p : Place) (entry : Option Entry) → (with_entry_if_any m p entry).processes ≡ m.processes
 entry_processes m p None = refl
 entry_processes m p (Some entry) = refl
 
-entry_script : (m : State) (p : Place) (entry : Option Entry) → (with_entry_if_any m p entry).script ≡ m.script
+pub entry_script : (m : State) (p : Place) (entry : Option Entry) → (with_entry_if_any m p entry).script ≡ m.script
 entry_script m p None = refl
 entry_script m p (Some entry) = refl
 

@@ -23,7 +23,8 @@ use Rattle.bd_turns.specs.Sound.{AreBegunHolding, AreHoldsOfCalls, IsHeldOnce}
 use Rattle.bd_turns.specs.State.{Progress, State, has_ended, progress_of, running}
 use Rattle.bd_turns.specs.Turns.{holds_throughout}
 use Rattle.bd_turns.proofs.ActionsOfCalls.{held_from, holding}
-use Rattle.bd_turns.proofs.CallsAfterTurns.{GoesOn, runs_of}
+use Rattle.bd_turns.proofs.Cases.{running_process}
+use Rattle.bd_turns.proofs.CallsAfterTurns.{GoesOn}
 use Rattle.bd_turns.proofs.EffectiveTurns.{IsGoing, IsHeldFor, Turned, has_ended-by_end, store_with}
 use Rattle.bd_turns.proofs.EntriesOfCalls.{added_made, added_place}
 use Rattle.bd_turns.proofs.FilesOfCalls.{file_of_kept, store_after}
@@ -200,7 +201,7 @@ module _ (v : Volume) (m next : State) (p : Place) (entry : Option Entry) (g : P
           let holds = reached.sound.holds_are.holds q file was in (
             holds.0,
             t.follows.other_running q differ ∙ holds.1,
-            other_file q file holds.0 differ (runs_of m q holds.0 holds.1) was holds.2,
+            other_file q file holds.0 differ (running_process m q holds.0 holds.1) was holds.2,
           )
       by (by_own same goes for_call) =
           (record p { before = p.before ++ added }, ap (running next) same ∙ goes.running_is, own_file goes file (held_file file for_call))
@@ -237,7 +238,7 @@ module _ (v : Volume) (m next : State) (p : Place) (entry : Option Entry) (g : P
       let was = other_place q x differ is in
       let holds = reached.sound.holds_are.begun_holding q x was through some in (
         holds.0,
-        other_file q holds.0 x differ (runs_of m q x was) holds.2 holds.1,
+        other_file q holds.0 x differ (running_process m q x was) holds.2 holds.1,
         ap (λ (y : Progress). y.held) (t.follows.others q differ) ∙ holds.2,
       ))
       (cases_eq q process)

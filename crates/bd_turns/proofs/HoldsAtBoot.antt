@@ -21,7 +21,7 @@ use Rattle.bd_turns.proofs.ActionsOfCalls.{empty-unbegun, held_from}
 use Rattle.bd_turns.proofs.CallsAfterTurns.{runs_at}
 
 -- no process has begun
-all_new : (processes : List Process) (q : ℕ) → let new : Process → Progress = λ p. new_progress in
+pub all_new : (processes : List Process) (q : ℕ) → let new : Process → Progress = λ p. new_progress in
     slice_index_or (map new processes) q new_progress ≡ new_progress
 all_new [] q = refl
 all_new (p ∷ processes) zero = refl

@@ -57,7 +57,7 @@ module _ (v : Volume) (m done : State) (p : Place) (o : Option Entry) (progress 
   abbrev after : Place
   after = grown p o
 
-  runs : RunsAt m p
+  runs : RunsAt m process p
   runs = runs_at m process p is.running_is
 
   -- ---- how many calls have ended

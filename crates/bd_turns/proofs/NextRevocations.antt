@@ -21,6 +21,7 @@ use Rattle.bd_entry.specs.Refusals.{descriptor_of, file_of, first_refusal, growt
 use Rattle.bd_entry.specs.RulesOfContents.{MayBegin}
 use Rattle.bd_entry.specs.Store.{Descriptor, Store, blocks_in, descriptor_at, lowest_fd, next_part, size_in}
 use Rattle.bd_entry.proofs.NextActs.{map_from, or_from_either}
+use Rattle.bd_turns.proofs.ActionsOfCalls.{beginning_none}
 
 -- whether the act revokes keys, submits or polls
 abbrev is_special : Act → Bool
@@ -176,19 +177,6 @@ own_special s holders r (Close fd) act is special = absurd (both_ways (is_specia
 
 -- ---- what comes once a call may begin
 
--- a call that nothing keeps from beginning has no reason to be refused
-none_at_first : (s : Store) (holders : Holders) (p : Place) (o : Option Reason) → before_beginning s holders p o ≡ None → o ≡ None
-none_at_first s holders p None none = refl
-none_at_first s holders p (Some reason) none = absurd (by (comes_before_holder reason) none)
-  where
-    later : (o : Option Act) → option_or o (Some (acts.Refuse None reason)) ≡ None → ⊥
-    later None none = none-some (acts.Refuse None reason) (sym none)
-    later (Some other) none = none-some other (sym none)
-
-    by : (b : Bool) → cond b (Some (acts.Refuse None reason)) (option_or (busy_at_first s holders p) (Some (acts.Refuse None reason))) ≡ None → ⊥
-    by true none = none-some (acts.Refuse None reason) (sym none)
-    by false none = later (busy_at_first s holders p) none
-
 -- what is tested as a call begins
 pub tested : (before : List Entry) (outstanding : List ℕ) (o : Option Act) (act : Act) →
     cond (not (is_none_of before && is_none_of outstanding)) None o ≡ Some act → (before ≡ []) × (outstanding ≡ []) × (o ≡ Some act)
@@ -230,8 +218,8 @@ next_act-cases s holders r act is =
     inr (record {
       free = passed p.before r.outstanding first goes_on.0;
       may_begin = λ none empty.
-          none_at_first s holders p (first_refusal s p.at.process p.call)
-          (passed p.before r.outstanding first goes_on.0 none empty);
+          (beginning_none s holders p (first_refusal s p.at.process p.call)
+          (passed p.before r.outstanding first goes_on.0 none empty)).0;
       act_is = goes_on.1;
     }))
     (or_from_either (cond (has_begun r) None first) (option_or (revoke (keys_to_revoke s p p.call)) (own_act s holders r p.call)) act is)

@@ -26,7 +26,7 @@ use Rattle.bd_entry.proofs.HistoryLaws.{history_leads, work_is_of_running_call}
 use Rattle.bd_entry.proofs.RunningCalls.{still_next, work-ended, work-other}
 use Rattle.bd_turns.specs.Sound.{AreInTurn}
 use Rattle.bd_turns.specs.State.{State, progress_of, running}
-use Rattle.bd_turns.proofs.HandFrames.{IsPlaceOf, is_place}
+use Rattle.bd_turns.proofs.RunningPlaces.{RunsAt, runs_at}
 
 -- ---- the descriptor of a call with pieces
 
@@ -106,8 +106,8 @@ pub pieces_attach_nothing : (v : Volume) (m : State) (p : Place) (number fd : �
 pieces_attach_nothing v m p number fd piece history in_turn running_is is =
     by (work_of m.store p.at.process) refl
   where
-    place : IsPlaceOf m p.at.process p
-    place = is_place m p.at.process p running_is
+    place : RunsAt m p.at.process p
+    place = runs_at m p.at.process p running_is
 
     own : list_any (attaches_by fd) (entries_of p.at m.journal) ≡ false
     own =
@@ -115,7 +115,7 @@ pieces_attach_nothing v m p number fd piece history in_turn running_is is =
         (λ some.
         both_ways (can_attach p.call) (pieces_cannot_attach p.call number piece is)
         (attaches_by-can_attach (start_of p.call p.at) (entries_of p.at m.journal) fd
-        ((history_leads v m.script m.journal m.store history).ordered.of_call p.at p.call place.call_is) some))
+        ((history_leads v m.script m.journal m.store history).ordered.of_call p.at p.call place.called) some))
 
     of_next : (n : ℕ) → IsNextCall m.script m.journal (numbered p.at.process n) → work_of m.store p.at.process ≢ [] →
         entries_of (numbered p.at.process n) m.journal ≡ entries_of p.at m.journal

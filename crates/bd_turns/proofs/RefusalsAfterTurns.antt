@@ -25,7 +25,8 @@ use Rattle.bd_turns.specs.Sound.{AreAllowed, AreOpensOfFiles, is_open, keeps_all
 use Rattle.bd_turns.specs.State.{Progress, State, outstanding, progress_of, running}
 use Rattle.bd_turns.specs.Turns.{holds_throughout}
 use Rattle.bd_turns.proofs.ActionsOfCalls.{empty-unbegun, no_commands, throughout-no_pieces}
-use Rattle.bd_turns.proofs.CallsAfterTurns.{GoesOn, runs_of}
+use Rattle.bd_turns.proofs.Cases.{running_process}
+use Rattle.bd_turns.proofs.CallsAfterTurns.{GoesOn}
 use Rattle.bd_turns.proofs.EffectiveTurns.{Turned, store_with}
 use Rattle.bd_turns.proofs.EntriesOfCalls.{added_place}
 use Rattle.bd_turns.proofs.FilesOfCalls.{descriptor_kept, opened_there, store_after}
@@ -99,13 +100,13 @@ module _ (v : Volume) (m next : State) (p : Place) (entry : Option Entry) (g : P
       subst (λ (s : Store). first_refusal s q x.call ≡ None) (sym t.store) (by entry refl)
     where
       of_q : x.at.process ≡ q
-      of_q = runs_of m q x was
+      of_q = running_process m q x was
 
       before_some : holds_throughout x.call ≡ true → x.before ≢ []
       before_some through empty =
           both_ways (has_begun (running_of m x))
           (empty-unbegun m x empty
-          (no_commands m x reached.sound.calls (ap (running m) (runs_of m q x was) ∙ was) (throughout-no_pieces x.call through))) begun
+          (no_commands m x reached.sound.calls (ap (running m) (running_process m q x was) ∙ was) (throughout-no_pieces x.call through))) begun
 
       spares : (e : Entry) → entry ≡ Some e → (file : ℕ) → file_of_call m.store x.call None ≡ Some file → LeavesThere file e × LeavesUnopened file e
       spares e is file of =
@@ -148,7 +149,7 @@ module _ (v : Volume) (m next : State) (p : Place) (entry : Option Entry) (g : P
       ⊎_elim
       (λ same.
       let mine : running next process ≡ Some x = ap (running next) (sym same) ∙ is in
-      let of_q : x.at.process ≡ process = runs_of next process x mine in
+      let of_q : x.at.process ≡ process = running_process next process x mine in
       ⊎_elim
       (λ goes.
       let place : x ≡ record p { before = p.before ++ added } = same_Some x (record p { before = p.before ++ added }) (sym mine ∙ goes.running_is) in
@@ -163,7 +164,7 @@ module _ (v : Volume) (m next : State) (p : Place) (entry : Option Entry) (g : P
       (λ differ.
       let was : running m q ≡ Some x = sym (t.follows.other_running q differ) ∙ is in
       let stays : progress_of next x.at.process ≡ progress_of m x.at.process =
-      t.follows.others x.at.process (λ same. differ (sym (runs_of m q x was) ∙ same)) in
+      t.follows.others x.at.process (λ same. differ (sym (running_process m q x was) ∙ same)) in
       other_allowed q x differ was keeps
       (sym (ap (λ (y : Progress). not (is_none_of x.before && is_none_of (outstanding y))) stays) ∙ begun))
       (cases_eq q process)
@@ -191,7 +192,7 @@ module _ (v : Volume) (m next : State) (p : Place) (entry : Option Entry) (g : P
       let same : held.0 ≡ there.0.file = same_Some held.0 there.0.file (sym held.1 ∙ there.2) in
       let after =
       descriptor_next q fd there.0.file (λ e is closes mine. differ (mine ∙ holds.at_process v m next p entry g reached t e is)) (there.0, there.1, refl) in
-      let file = holds.other_file v m next p entry g reached t q there.0.file x differ (runs_of m q x was) (held.2 ∙ ap Some same) there.2 in
+      let file = holds.other_file v m next p entry g reached t q there.0.file x differ (running_process m q x was) (held.2 ∙ ap Some same) there.2 in
       (after.0, after.1, file ∙ ap Some (sym after.2))
 
   -- a descriptor that the turn opened is of the file of its call

@@ -36,7 +36,7 @@ use Rattle.bd_turns.specs.Reached.{IsReached}
 use Rattle.bd_turns.specs.State.{Posted, State, running}
 use Rattle.bd_turns.specs.Turns.{Outcome, Nothing, Acting, after_adding, answer_in, engine_outcome, entries_added, invalidation_outcome, outcome_of, outcome_of_action, outcome_of_invalidation, posting_place, process_count, processor_outcome, state_after}
 use Rattle.bd_turns.proofs.AddedEntries.{added_keeps}
-use Rattle.bd_turns.proofs.Cases.{running_there}
+use Rattle.bd_turns.proofs.Cases.{each_outcome}
 use Rattle.bd_turns.proofs.EngineStepsOfTables.{IsStep, completes, engine_steps, enters, fills, looks, misses, moves, reads, retires}
 use Rattle.bd_turns.proofs.HeldTranslations.{held_translations_are_current}
 use Rattle.bd_turns.proofs.LegalTurns.{turns_add_legally}
@@ -73,16 +73,6 @@ MayRelease m o = answer_in o ≡ Did rows.Release → Releases m o
 never : (m : State) (o : Outcome) → does_release (answer_in o) ≡ false → MayRelease m o
 unfolding MayRelease is_release_row does_release
 never m o not_so is = absurd (false≢true (sym not_so ∙ ap does_release is))
-
-of_slot : {X : Type 0} (m : State) (f : X → Outcome) (slot : Option X) → ((x : X) → slot ≡ Some x → MayRelease m (f x)) →
-    MayRelease m (option_map_or f slot Nothing)
-unfolding is_release_row does_release
-of_slot m f None each = never m Nothing refl
-of_slot m f (Some x) each = each x refl
-
-of_either : (m : State) (first : Bool) (one other : Outcome) → MayRelease m one → MayRelease m other → MayRelease m (cond first one other)
-of_either m true one other a b = a
-of_either m false one other a b = b
 
 of_action : (m : State) (p : Place) → running m p.at.process ≡ Some p → (action : Action) → next_action m p ≡ Some action →
     MayRelease m (outcome_of_action m p action)
@@ -152,25 +142,16 @@ of_invalidation m p (engines.Changes row tables) is =
 of_invalidation m p (engines.Ends entry tables) is = never m _ refl
 of_invalidation m p (engines.WaitsFor wait) is = never m _ refl
 
-processor_releases : (m : State) (process : ℕ) → MayRelease m (processor_outcome m process)
-processor_releases m process =
-    of_slot m (λ p. option_map_or (outcome_of_action m p) (next_action m p) Nothing) (running m process)
-    (λ p is. of_slot m (outcome_of_action m p) (next_action m p) (of_action m p (running_there m process p is)))
-
-engine_releases : (m : State) (process : ℕ) → MayRelease m (engine_outcome m process)
-unfolding does_release
-engine_releases m process =
-    of_slot m _ (running m process)
-    (λ p is. of_slot m _ (engine_step m p) (λ step acting. never m _ (steps_release_nothing m p step (engine_steps m p step acting))))
-
-invalidation_releases : (m : State) → MayRelease m (invalidation_outcome m)
-invalidation_releases m =
-    of_slot m _ (posting_place m) (λ p is. of_slot m (outcome_of_invalidation m p) (invalidation_of m.tables m.posted) (of_invalidation m p))
-
 turn_releases : (m : State) (actor : ℕ) → MayRelease m (outcome_of m actor)
-turn_releases m actor =
-    of_either m (nat_lt actor (process_count m)) _ _ (processor_releases m actor)
-    (of_either m (nat_lt actor (2 * process_count m)) _ _ (engine_releases m (actor - process_count m)) (invalidation_releases m))
+unfolding is_release_row does_release
+turn_releases m =
+    each_outcome m (MayRelease m)
+    (record {
+      nothing = never m Nothing refl;
+      action = of_action m;
+      step = λ p is step acting. never m _ (steps_release_nothing m p step (engine_steps m p step acting));
+      invalidation = λ p is. of_invalidation m p;
+    })
 
 -- ---- what a release is
 

@@ -29,19 +29,19 @@ use Rattle.bd_turns.specs.State.{State, outstanding, place_of, progress_of, runn
 
 -- ---- the running call
 
--- the process's call at this place is its running one
-pub record RunsAt (m : State) (p : Place) : Type 0 where
-  pub at_is : p.at ≡ running_at m p.at.process
+-- the place is that of the first call of the process that has not ended, with its entries so far
+pub record RunsAt (m : State) (process : ℕ) (p : Place) : Type 0 where
+  pub at_is : p.at ≡ running_at m process
   pub called : call_at m.script p.at ≡ Some p.call
   pub before_is : p.before ≡ entries_of p.at m.journal
 
-pub runs_at : (m : State) (process : ℕ) (p : Place) → running m process ≡ Some p → RunsAt m p
+pub runs_at : (m : State) (process : ℕ) (p : Place) → running m process ≡ Some p → RunsAt m process p
 runs_at m process p is =
     let found = map_from (place_of m (running_at m process)) (call_at m.script (running_at m process)) p is in
-    subst (RunsAt m) found.2 (record { at_is = refl; called = found.1; before_is = refl })
+    subst (RunsAt m process) found.2 (record { at_is = refl; called = found.1; before_is = refl })
 
 -- it is the first call of its process that is not finished in the journal, where it is not
-pub next_call : (m : State) (p : Place) → RunsAt m p → AreInTurn m → is_ended_by p.call p.before ≡ false →
+pub next_call : (m : State) (p : Place) → RunsAt m p.at.process p → AreInTurn m → is_ended_by p.call p.before ≡ false →
     IsNextCall m.script m.journal p.at
 next_call m p runs turn unfinished =
     let number : p.at.call ≡ (progress_of m p.at.process).ended = ap (λ (at : At). at.call) runs.at_is in

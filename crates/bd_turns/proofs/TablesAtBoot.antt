@@ -20,6 +20,7 @@ use Rattle.bd_tables.specs.Sound.{IsSound, granted_of}
 use Rattle.bd_tables.specs.State.{walk_at}
 use Rattle.bd_turns.specs.Sound.{AreTablesSound}
 use Rattle.bd_turns.specs.State.{Progress, boot_state, new_progress, new_tables}
+use Rattle.bd_turns.proofs.HoldsAtBoot.{all_new}
 use Rattle.bd_turns.proofs.TablesOfEngines.{is_refused}
 
 -- each engine is idle
@@ -31,9 +32,7 @@ walks_at_boot (p ∷ processes) (suc process) = walks_at_boot processes process
 -- and has no command in hand
 hands_at_boot : (processes : List Process) (process : ℕ) → let none : Process → Progress = λ p. new_progress in
     (slice_index_or (map none processes) process new_progress).hand ≡ None
-hands_at_boot [] process = refl
-hands_at_boot (p ∷ processes) zero = refl
-hands_at_boot (p ∷ processes) (suc process) = hands_at_boot processes process
+hands_at_boot processes process = ap (λ (x : Progress). x.hand) (all_new processes process)
 
 -- no line is filled
 lines_at_boot : (n c : ℕ) → line_at (replicate n None) c ≡ None

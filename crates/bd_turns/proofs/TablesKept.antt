@@ -29,7 +29,7 @@ use Rattle.bd_turns.proofs.Cases.{Effective, Leads, acts, adds, changes, ends, p
 use Rattle.bd_turns.proofs.CellsOfPairs.{lookups_of_cells, whole_of_cells}
 use Rattle.bd_turns.proofs.EngineStepsOfTables.{IsChange, IsEnd, changes_of, drains, end_of, engine_steps, sweeps}
 use Rattle.bd_turns.proofs.FindsKept.{Detaches}
-use Rattle.bd_turns.proofs.HandFrames.{is_place}
+use Rattle.bd_turns.proofs.RunningPlaces.{runs_at}
 use Rattle.bd_turns.proofs.HandsKept.{AreWalking, IsCalm, calm_adding, calm_effect, calm_polling, calm_posting, calm_submitting, idle_calm, walking_calm}
 use Rattle.bd_turns.proofs.HandsOfSteps.{idle_after_step, steps_hand, steps_to, walking_after_step}
 use Rattle.bd_turns.proofs.LinesKept.{lines_after_change, lines_after_step, tables_after-lines}
@@ -70,12 +70,12 @@ calm_sound m next calm sound are lines notable =
 -- a process is one of those that have a walk and a progress
 within_walks : (v : Volume) (m : State) (p : Place) → IsReached v m → running m p.at.process ≡ Some p → p.at.process < length m.tables.walks
 within_walks v m p reached running_is =
-    let there = process_there m.script p.at p.call (is_place m p.at.process p running_is).call_is in
+    let there = process_there m.script p.at p.call (runs_at m p.at.process p running_is).called in
     subst (λ (n : ℕ). p.at.process < n) (sym reached.sound.calls.processes.walks) there
 
 within_processes : (v : Volume) (m : State) (p : Place) → IsReached v m → running m p.at.process ≡ Some p → p.at.process < length m.processes
 within_processes v m p reached running_is =
-    let there = process_there m.script p.at p.call (is_place m p.at.process p running_is).call_is in
+    let there = process_there m.script p.at p.call (runs_at m p.at.process p running_is).called in
     subst (λ (n : ℕ). p.at.process < n) (sym reached.sound.calls.processes.progress) there
 
 -- ---- entries of processors
@@ -121,12 +121,12 @@ sound_step v m p step reached next running_is acting =
     let hands = λ (hand : InHand) (held : (progress_of m p.at.process).hand ≡ Some hand). sound.hands p.at.process p hand running_is held in
     let steps = steps_hand m p step is there hands in
     let to = steps_to m p step steps (within_processes v m p reached running_is) in
-    let place = is_place m p.at.process p running_is in
+    let place = runs_at m p.at.process p running_is in
     let noting : Noting v m p = record {
       tables = are;
       lookups = sound.lookups;
       valid = calls.valid;
-      within = is_call m.script p.at p.call calls.limits place.call_is;
+      within = is_call m.script p.at p.call calls.limits place.called;
       there = there;
       hands = hands;
       fresh = λ number fd piece piece_is. pieces_attach_nothing v m p number fd piece reached.history calls.in_turn running_is piece_is;

@@ -40,7 +40,7 @@ use Rattle.bd_turns.proofs.AddedEntries.{FromAction, added_keeps, adds_from}
 use Rattle.bd_turns.proofs.CellsOfGrowth.{padded-size, part_cells-look}
 use Rattle.bd_turns.proofs.CellsOfPairs.{AreCells, KeepsFilesOf, are_cells, cells_of_attach, cells_of_states, cells_of_store}
 use Rattle.bd_turns.proofs.FilesOfRights.{added_process, does_not_grow, keeps_files}
-use Rattle.bd_turns.proofs.HandFrames.{is_place}
+use Rattle.bd_turns.proofs.RunningPlaces.{runs_at}
 use Rattle.bd_turns.proofs.RightsFit.{AllFit, Fits, all_fit, key_at}
 use Rattle.bd_turns.proofs.RightsKept.{attached_there, rights_after_adding}
 use Rattle.bd_turns.proofs.TableParts.{AreOpen, HasMarks, cleared_marks, marks_attach, marks_states, on_attached, on_states}
@@ -166,7 +166,7 @@ tables_attached v m p at fd part adding =
     let key = key_at at.process fd part in
     let none : fin.get tables.rights key ≡ None = unattached tables.rights s at.process fd part d adding.tables.fit there next.unattached in
     let few : p.at.process < PROCESSES =
-    few_processes m p adding.limits (ap is_some (is_place m p.at.process p adding.added.running_is).call_is) in
+    few_processes m p adding.limits (ap is_some (runs_at m p.at.process p adding.added.running_is).called) in
     let is_key : IsKey key = record {
       process = subst (λ (n : ℕ). n < PROCESSES) (sym process_is) few;
       fd = few_descriptors s at.process fd d adding.valid there;

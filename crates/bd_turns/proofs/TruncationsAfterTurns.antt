@@ -30,7 +30,8 @@ use Rattle.bd_turns.specs.Reached.{IsReached}
 use Rattle.bd_turns.specs.Sound.{AreTruncating, IsTruncating, is_clear, is_open, is_release}
 use Rattle.bd_turns.specs.State.{Progress, State, has_ended, progress_of, running}
 use Rattle.bd_turns.specs.Turns.{holds_throughout}
-use Rattle.bd_turns.proofs.CallsAfterTurns.{GoesOn, runs_of}
+use Rattle.bd_turns.proofs.Cases.{running_process}
+use Rattle.bd_turns.proofs.CallsAfterTurns.{GoesOn}
 use Rattle.bd_turns.proofs.EffectiveTurns.{Turned, has_ended-by_end, store_with}
 use Rattle.bd_turns.proofs.EntriesOfCalls.{added_made, added_place, needs_hold}
 use Rattle.bd_turns.proofs.FilesOfCalls.{store_after}
@@ -189,7 +190,7 @@ module _ (v : Volume) (m next : State) (p : Place) (entry : Option Entry) (g : P
       let held = λ (some : x.before ≢ []). reached.sound.holds_are.begun_holding q x was (ap holds_throughout call) some in
       let same = λ (some : x.before ≢ []) (file : ℕ) (of : file_of next.store x ≡ Some file).
       same_Some (held some).0 file
-      (sym (holds.other_file v m next p entry g reached t q (held some).0 x differ (runs_of m q x was) (held some).2 (held some).1) ∙ of) in
+      (sym (holds.other_file v m next p entry g reached t q (held some).0 x differ (running_process m q x was) (held some).2 (held some).1) ∙ of) in
       record {
         without_rights = λ released file of.
             let some = some_any is_release x.before released in
