@@ -97,3 +97,4 @@ pub mod NotableKept
 pub mod TablesKept
 pub mod EngineStepsOfTables
 pub mod PieceSteps
+pub mod PieceOwn
