@@ -98,3 +98,4 @@ pub mod TablesKept
 pub mod EngineStepsOfTables
 pub mod PieceSteps
 pub mod PieceOwn
+pub mod PieceEntries
