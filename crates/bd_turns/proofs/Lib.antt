@@ -99,3 +99,4 @@ pub mod EngineStepsOfTables
 pub mod PieceSteps
 pub mod PieceOwn
 pub mod PieceEntries
+pub mod SizesAfter
