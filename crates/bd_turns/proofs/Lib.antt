@@ -100,3 +100,4 @@ pub mod PieceSteps
 pub mod PieceOwn
 pub mod PieceEntries
 pub mod SizesAfter
+pub mod AttachTurns
