@@ -101,3 +101,4 @@ pub mod PieceOwn
 pub mod PieceEntries
 pub mod SizesAfter
 pub mod AttachTurns
+pub mod FileOwn
