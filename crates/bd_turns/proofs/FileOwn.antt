@@ -1,15 +1,17 @@
 -- Each turn in the name of a call on a file, without pieces, leaves it fewer turns.
-use Rattle.std.proofs.Common.{◌≡◌, ◌≢◌, ◌⊎◌, inl, inr, ℕ, zero, suc, ◌+◌, ◌-◌, ◌*◌, ◌<◌, ◌≤◌, Bool, true, false, not, ◌&&◌, ◌||◌, cond, List, [], ◌∷◌, ◌++◌, length, Option, None, Some, refl, sym, ap, ◌∙◌, subst, arith, ⊎_elim}
+use Rattle.std.proofs.Common.{◌≡◌, ◌≢◌, ◌⊎◌, inl, inr, ℕ, zero, suc, ◌+◌, ◌-◌, ◌*◌, ◌/◌, ◌<◌, ◌≤◌, Bool, true, false, not, ◌&&◌, ◌||◌, cond, List, [], ◌∷◌, ◌++◌, length, Option, None, Some, refl, sym, ap, ◌∙◌, subst, arith, ⊎_elim}
 use Rattle.std.specs.Prelude.{nat_eq, nat_lt, slice_get}
 use Rattle.std.specs.Option.{option_and_then, option_map, option_map_or}
 use Rattle.std.specs.List.{list_any}
 use Rattle.std.specs.FinMap as fin
 use Rattle.std.proofs.lemmas.Bool.{both_ways, false≢true, or_left, or_parts}
 use Rattle.std.proofs.lemmas.List.{append-nil}
+use Rattle.std.proofs.lemmas.List.FromFn.{length-map-range_with_len}
 use Rattle.std.proofs.lemmas.List.Folds.{list_any-append}
 use Rattle.std.proofs.lemmas.Option.{none-some, same_Some}
 use Rattle.bd_base.specs.declared.journal.At.{At}
 use Rattle.bd_base.specs.declared.key.Key.{Key}
+use Rattle.bd_base.specs.declared.limits.TheConstants.{BLOCK_SIZE}
 use Rattle.bd_base.specs.declared.script.Call.{Call}
 use Rattle.bd_base.specs.declared.script.Call.TheVariants.{Enter, Create, Read, Write, Truncate, Unlink, Size, Map, Close, RawRead, RawWrite}
 use Rattle.bd_base.specs.declared.script.How.{How}
@@ -19,6 +21,8 @@ use Rattle.bd_base.specs.declared.volume.Inode.{Inode}
 use Rattle.bd_base.specs.declared.volume.Volume.{Volume}
 use Rattle.bd_base.specs.Files.{blocks_for}
 use Rattle.bd_base.specs.Inodes.{blocks_of_slot}
+use Rattle.bd_base.specs.Pieces.{Piece, piece_at, pieces}
+use Rattle.bd_base.specs.Scripts.{IsCall}
 use Rattle.bd_entry.specs.declared.entry.Entry.{Entry}
 use Rattle.bd_entry.specs.declared.entry.Entry.TheVariants as entries
 use Rattle.bd_entry.specs.Calls.{Place, at_of, fd_of, fd_of_call, is_end_of, is_made_by, is_opened, opened_fd, pieces_of_call}
@@ -31,6 +35,7 @@ use Rattle.bd_entry.specs.Store.{Descriptor, Store, blocks_in, descriptor_at, fi
 use Rattle.bd_entry.proofs.Accesses.{of_call-in_store, work-is_of_call}
 use Rattle.bd_entry.proofs.CallEntries.{fd_of_call-append}
 use Rattle.bd_entry.proofs.EffectsOnFiles.{effect_of-files}
+use Rattle.bd_entry.proofs.HistoryLaws.{is_call}
 use Rattle.bd_entry.proofs.NextActs.{then_from}
 use Rattle.bd_tables.specs.declared.state.RightState.TheVariants as states
 use Rattle.bd_tables.specs.Effects as effects
@@ -46,6 +51,7 @@ use Rattle.bd_turns.specs.Turns.{after_adding, grown_tables, tables_after, with_
 use Rattle.bd_turns.proofs.ActionsOfCalls.{no_commands}
 use Rattle.bd_turns.proofs.AddedEntries.{is_detach}
 use Rattle.bd_turns.proofs.AttachTurns.{attach_falls, part_bound}
+use Rattle.bd_turns.proofs.CallsAfterTurns.{runs_at}
 use Rattle.bd_turns.proofs.EffectiveTurns.{has_ended-by_end}
 use Rattle.bd_turns.proofs.EntriesOfCalls.{added_made}
 use Rattle.bd_turns.proofs.FilesOfCalls.{store_after, valid_after}
@@ -69,6 +75,41 @@ with_rights a b s t less same = omega arith
 
 with_sizes : (a b s t : ℕ) → a ≤ b → s + 1 ≤ t → a + s + 1 + 1 ≤ b + t + 1
 with_sizes a b s t same less = omega arith
+
+-- ---- calls with pieces
+
+-- whether the call reads or writes by pieces
+abbrev pub has_pieces : Call → Bool
+has_pieces (Read fd off len) = true
+has_pieces (Write fd off bytes) = true
+has_pieces (RawRead address range) = true
+has_pieces (RawWrite address lo bytes) = true
+has_pieces call = false
+
+some_of_range : (off len : ℕ) → 1 ≤ len → pieces off len ≢ []
+some_of_range off len some none =
+    let first = off / BLOCK_SIZE in
+    let count = (off + len - 1) / BLOCK_SIZE + 1 - first in
+    let size : length (pieces off len) ≡ count = length-map-range_with_len (piece_at off len) first count in
+    let empty : length (pieces off len) ≡ 0 = ap (λ (l : List Piece). length l) none in
+    omega (arith, size, empty, some)
+
+-- such a call has some
+pub some_pieces : (call : Call) → IsCall call → has_pieces call ≡ true → pieces_of_call call ≢ []
+some_pieces (Read fd off len) within has none = some_of_range off len within.2 none
+some_pieces (Write fd off bytes) within has none = some_of_range off (length bytes) within.2.1 none
+some_pieces (RawRead address range) within has none = let empty : length (pieces_of_call (RawRead address range)) ≡ 0 = ap (λ (l : List Piece). length l) none in omega arith
+some_pieces (RawWrite address lo bytes) within has none =
+    let empty : length (pieces_of_call (RawWrite address lo bytes)) ≡ 0 = ap (λ (l : List Piece). length l) none in omega arith
+some_pieces call within has none = false≢true has
+
+-- another has none
+pub no_pieces_of : (call : Call) → has_pieces call ≡ false → pieces_of_call call ≡ []
+no_pieces_of (Read fd off len) none = absurd (false≢true (sym none))
+no_pieces_of (Write fd off bytes) none = absurd (false≢true (sym none))
+no_pieces_of (RawRead address range) none = absurd (false≢true (sym none))
+no_pieces_of (RawWrite address lo bytes) none = absurd (false≢true (sym none))
+no_pieces_of call none = refl
 
 -- ---- revocation
 
@@ -286,3 +327,77 @@ module _ (v : Volume) (m : State) (reached : IsReached v m) (p : Place) (runs : 
         ap (attach_turns next.store p.at.process) after_fd
         ∙ ap (λ (s : Store). part_turns (descriptor_at s p.at.process fd)) (store_at x is) in
         omega (arith, old, new, mine)
+
+  -- ---- all of them
+
+  made_at : (call : Call) → p.call ≡ call → (x : Entry) → e ≡ x → is_made_by call x ≡ true
+  made_at call call_is x is = subst (λ (c : Call). is_made_by c x ≡ true) call_is (added_made v m p x (legal x is))
+
+  -- an entry of a call that goes on leaves it fewer turns
+  pub entries_fall : (file : ℕ) → file_of m.store p ≡ Some file → has_ended p.call (p.before ++ e ∷ []) g ≡ false → OwnFalls m next p (e ∷ []) (Some file)
+  entries_fall file of unended = of_call p.call refl e refl (made_at p.call refl e refl)
+    where
+      no_pieces : (call : Call) → p.call ≡ call → has_pieces call ≡ true → ⊥
+      no_pieces call call_is has =
+          some_pieces call
+          (subst IsCall call_is (is_call m.script p.at p.call reached.sound.calls.limits (runs_at m p.at.process p runs).called)) has
+          (ap pieces_of_call (sym call_is) ∙ without)
+
+      ending : {A : Type 0} (call : Call) → p.call ≡ call → (x : Entry) → e ≡ x → is_end_of call x ≡ true → A
+      ending call call_is x is ends =
+          absurd (goes_on-not_end unended (ap (λ (c : Call). is_end_of c e) call_is ∙ ap (is_end_of call) is ∙ ends))
+
+      detaching : {A : Type 0} (x : Entry) → e ≡ x → is_detach x ≡ true → A
+      detaching x is detaches = absurd (both_ways (is_detach e) detaches_not (ap is_detach is ∙ detaches))
+
+      of_clear : (call : Call) → p.call ≡ call → (at : At) (owner fd part : ℕ) → e ≡ entries.Cleared at owner fd part →
+          turns_for next (after p (e ∷ [])) call (Some file) + 1 ≤ turns_for m p call (Some file)
+      of_clear call call_is at owner fd part is =
+          subst (λ (c : Call). turns_for next (after p (e ∷ [])) c (Some file) + 1 ≤ turns_for m p c (Some file)) call_is
+          (cleared file of at owner fd part is)
+
+      by_fd : (call : Call) → p.call ≡ call → (before : List Entry) → fd_of (record p { before = before }) ≡ fd_of_call call before
+      by_fd call call_is before = ap (λ (c : Call). fd_of_call c before) call_is
+
+      of_attach : (call : Call) → p.call ≡ call → (at : At) (fd part : ℕ) → e ≡ entries.Attached at fd part →
+          attach_turns next.store p.at.process (fd_of (after p (e ∷ []))) + 1 ≤ attach_turns m.store p.at.process (fd_of p)
+      of_attach call call_is at fd part is =
+          let before_fd : fd_of p ≡ Some fd = fields_at (entries.Attached at fd part) is in
+          attached file of at fd part is before_fd (fd_of_call-append p.call p.before (e ∷ []) fd before_fd)
+
+      of_call : (call : Call) → p.call ≡ call → (x : Entry) → e ≡ x → is_made_by call x ≡ true →
+          turns_for next (after p (e ∷ [])) call (Some file) + 1 ≤ turns_for m p call (Some file)
+      of_call (Enter name mode hows.Plain) call_is (entries.Cleared at owner fd part) is made = of_clear (Enter name mode hows.Plain) call_is at owner fd part is
+      of_call (Truncate number goal) call_is (entries.Cleared at owner fd part) is made = of_clear (Truncate number goal) call_is at owner fd part is
+      of_call (Close number) call_is (entries.Cleared at owner fd part) is made = of_clear (Close number) call_is at owner fd part is
+      of_call (Enter name mode hows.Plain) call_is (entries.Opened at other fd m2 how) is made =
+          ending (Enter name mode hows.Plain) call_is (entries.Opened at other fd m2 how) is refl
+      of_call (Enter name mode hows.Direct) call_is (entries.Opened at other fd m2 how) is made =
+          subst
+          (λ (before_fd : Option ℕ). attach_turns next.store p.at.process (fd_of (after p (e ∷ []))) + 1 ≤ attach_turns m.store p.at.process before_fd)
+          (sym (by_fd (Enter name mode hows.Direct) call_is p.before))
+          (subst
+          (λ (after_fd : Option ℕ). attach_turns next.store p.at.process after_fd + 1 ≤ attach_turns m.store p.at.process (opened_fd p.before))
+          (sym (by_fd (Enter name mode hows.Direct) call_is (p.before ++ e ∷ []))) (opened file of name mode at other fd m2 how call_is is))
+      of_call (Enter name mode hows.Direct) call_is (entries.Attached at fd part) is made = of_attach (Enter name mode hows.Direct) call_is at fd part is
+      of_call (Map number) call_is (entries.Attached at fd part) is made = of_attach (Map number) call_is at fd part is
+      of_call (Enter name mode hows.Direct) call_is (entries.Mapped at fd count) is made =
+          ending (Enter name mode hows.Direct) call_is (entries.Mapped at fd count) is refl
+      of_call (Map number) call_is (entries.Mapped at fd count) is made = ending (Map number) call_is (entries.Mapped at fd count) is refl
+      of_call (Truncate number goal) call_is (entries.Released at other index block) is made = released file of number goal at other index block call_is is
+      of_call (Truncate number goal) call_is (entries.Extended at other to block) is made = extended file of number goal at other to block call_is is
+      of_call (Truncate number goal) call_is (entries.Sized at fd size) is made = ending (Truncate number goal) call_is (entries.Sized at fd size) is refl
+      of_call (Unlink name) call_is (entries.Released at other index block) is made = removed file of at other index block is
+      of_call (Unlink name) call_is (entries.Unlinked at other) is made = ending (Unlink name) call_is (entries.Unlinked at other) is refl
+      of_call (Close number) call_is (entries.Closed at fd) is made = ending (Close number) call_is (entries.Closed at fd) is refl
+      of_call (Create name perms) call_is (entries.Created at other n q) is made = ending (Create name perms) call_is (entries.Created at other n q) is refl
+      of_call (Size number) call_is (entries.SizeRead at fd size) is made = ending (Size number) call_is (entries.SizeRead at fd size) is refl
+      of_call call call_is (entries.Refused at None reason) is made = ending call call_is (entries.Refused at None reason) is refl
+      of_call call call_is (entries.Detached at owner fd part) is made = detaching (entries.Detached at owner fd part) is refl
+      of_call (Read fd off len) call_is x is made = absurd (no_pieces (Read fd off len) call_is refl)
+      of_call (Write fd off bytes) call_is x is made = absurd (no_pieces (Write fd off bytes) call_is refl)
+      of_call (RawRead address range) call_is x is made = absurd (no_pieces (RawRead address range) call_is refl)
+      of_call (RawWrite address lo bytes) call_is x is made = absurd (no_pieces (RawWrite address lo bytes) call_is refl)
+      of_call (Enter name mode hows.Plain) call_is x is made = absurd (false≢true made)
+      of_call (Enter name mode hows.Direct) call_is x is made = absurd (false≢true made)
+      of_call call call_is x is made = absurd (false≢true made)
