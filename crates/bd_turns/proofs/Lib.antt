@@ -102,3 +102,4 @@ pub mod PieceEntries
 pub mod SizesAfter
 pub mod AttachTurns
 pub mod FileOwn
+pub mod OtherTurns
