@@ -6,7 +6,7 @@ use Rattle.bd_turns.proofs.OwnRevocations.{clear_falls}
 use Rattle.bd_turns.proofs.PieceTurns.{kernel_grows}
 use Rattle.bd_turns.proofs.PieceSteps.{poll_turns}
 use Rattle.bd_turns.proofs.PieceOwn.{step_falls}
-use Rattle.bd_turns.proofs.OtherTurns.{other_parts}
+use Rattle.bd_turns.proofs.OtherTurns.{others_not}
 use Rattle.bd_turns.proofs.FileOwn.{revoking_falls}
 use Rattle.bd_turns.proofs.AttachTurns.{attach_falls}
 use Rattle.bd_turns.proofs.PieceEntries.{some_left}
