@@ -62,9 +62,9 @@ length-with_part part (x ∷ xs) none =
 -- ---- rights of a descriptor
 
 -- the descriptor after a right was attached by it
-attached_slot : (s : Store) (call : Call) (at : At) (fd part : ℕ) (d : Descriptor) → descriptor_at s at.process fd ≡ Some d →
+pub attached_slot : (s : Store) (call : Call) (at : At) (fd part : ℕ) (d : Descriptor) → descriptor_at s at.process fd ≡ Some d →
     (new : Descriptor) × (descriptor_at (store_after s call (entries.Attached at fd part)) at.process fd ≡ Some new)
-    × (new.attached ≡ with_part part d.attached)
+    × (new.attached ≡ with_part part d.attached) × (new.file ≡ d.file) × (new.mode ≡ d.mode)
 attached_slot s call at fd part d is =
     let e : Entry = entries.Attached at fd part in
     let changed : descriptor_at (after_change s e) at.process fd ≡ Some (effects.attach part d) =
@@ -72,8 +72,8 @@ attached_slot s call at fd part d is =
     let entries = work_of s at.process ++ e ∷ [] in
     let after = store_after s call e in
     ⊎_elim
-    (λ same. (effects.attach part d, same ∙ changed, refl))
-    (λ known. (with_known_size (effects.attach part d), known.3 ∙ ap (option_map with_known_size) changed, refl))
+    (λ same. (effects.attach part d, same ∙ changed, refl, refl, refl))
+    (λ known. (with_known_size (effects.attach part d), known.3 ∙ ap (option_map with_known_size) changed, refl, refl, refl))
     (after_call-cases (is_ended_by call entries) (after_telling (tells_size e) (after_change s e) at.process (fd_of_call call entries)) at.process
     (fd_of_call call entries) entries at.process fd)
 

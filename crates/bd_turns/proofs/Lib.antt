@@ -103,3 +103,6 @@ pub mod SizesAfter
 pub mod AttachTurns
 pub mod FileOwn
 pub mod OtherTurns
+pub mod RightsLeft
+pub mod TurnBounds
+pub mod WithinAfterTurns

@@ -48,7 +48,7 @@ use Rattle.bd_turns.proofs.TruncationsAfterTurns.{attached_file, other_size}
 -- ---- files that are held
 
 -- the file of a call is there
-file_there : (s : Store) (x : Place) (file : ℕ) → Valid s → file_of s x ≡ Some file → (f : Inode) × (file_in s file ≡ Some f)
+pub file_there : (s : Store) (x : Place) (file : ℕ) → Valid s → file_of s x ≡ Some file → (f : Inode) × (file_in s file ≡ Some f)
 file_there s x file valid of = by x.call of
   where
     by_descriptor : option_map (λ (d : Descriptor). d.file) (descriptor_of s x) ≡ Some file → (f : Inode) × (file_in s file ≡ Some f)
