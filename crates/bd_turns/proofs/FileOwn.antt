@@ -134,7 +134,7 @@ revoking_falls m next p added file at owner fd part made on_file by_fd size = of
 -- ---- entries
 
 -- the entry changes no file
-abbrev keeps_files : Entry → Bool
+abbrev pub keeps_files : Entry → Bool
 keeps_files (entries.Cleared at owner fd part) = true
 keeps_files (entries.Detached at owner fd part) = true
 keeps_files e = false

@@ -1,6 +1,6 @@
 -- Each turn keeps each call within the turns that it may take.
 use Rattle.std.proofs.Common.{◌≡◌, ◌≢◌, ◌⊎◌, inl, inr, ℕ, zero, suc, ◌+◌, ◌<◌, ◌≤◌, Bool, true, false, not, ◌&&◌, ◌||◌, List, [], ◌∷◌, ◌++◌, length, map, Option, None, Some, refl, sym, ap, ◌∙◌, subst, arith, ⊎_elim}
-use Rattle.std.specs.Prelude.{All, drop, nat_eq}
+use Rattle.std.specs.Prelude.{All, drop, nat_eq, slice_get}
 use Rattle.std.specs.Option.{option_to_list}
 use Rattle.std.specs.List.{list_any}
 use Rattle.std.specs.FinMap as fin
@@ -19,6 +19,7 @@ use Rattle.bd_entry.specs.declared.entry.Entry.TheVariants as entries
 use Rattle.bd_entry.specs.Actions.{has_begun, is_none_of, keys_to_revoke}
 use Rattle.bd_entry.specs.Calls.{Place, has_missed, is_answered, is_end_of, is_made_by, pieces_of_call}
 use Rattle.bd_entry.specs.Refusals.{file_of}
+use Rattle.bd_entry.specs.Store.{Store, size_in}
 use Rattle.bd_entry.proofs.HistoryLaws.{is_call}
 use Rattle.bd_tables.specs.declared.state.Right.{Right}
 use Rattle.bd_tables.specs.State.{TableState}
@@ -33,7 +34,7 @@ use Rattle.bd_turns.specs.Processors.{next_action, running_of}
 use Rattle.bd_turns.specs.Reached.{IsReached}
 use Rattle.bd_turns.specs.Rest.{AreWithinTurns, TurnsKeepWithin, is_by, is_on_file, piece_turns, turns_for}
 use Rattle.bd_turns.specs.Sound.{is_clear_at, is_revoked, is_told}
-use Rattle.bd_turns.specs.State.{Completed, Posted, Progress, State, has_ended, outstanding, progress_of, running}
+use Rattle.bd_turns.specs.State.{Completed, Posted, Progress, State, has_ended, outstanding, pieces_in_hand, progress_of, running}
 use Rattle.bd_turns.specs.Turns.{after_adding, after_effect, after_ending, after_polling, after_posting, after_step, after_submitting, after_turn, holds_throughout, posting_place, with_entry_if_any, with_hold}
 use Rattle.bd_turns.proofs.ActionsOfCalls.{ahead, empty-unbegun, no_commands, passed-alone, throughout-no_pieces}
 use Rattle.bd_turns.proofs.CallsAfterTurns.{GoesOn, runs_at}
@@ -42,14 +43,14 @@ use Rattle.bd_turns.proofs.Cases.{Effective, Leads, acts, adds, changes, ends, p
 use Rattle.bd_turns.proofs.EffectiveTurns as turned
 use Rattle.bd_turns.proofs.EffectiveTurns.{Turned, has_ended-by_end}
 use Rattle.bd_turns.proofs.EngineSteps.{step_keeps}
-use Rattle.bd_turns.proofs.EntriesOfCalls.{added_made, cleared_by, clears-throughout}
+use Rattle.bd_turns.proofs.EntriesOfCalls.{added_made, cleared_by, clears-throughout, needs_hold}
 use Rattle.bd_turns.proofs.FileOwn as files
 use Rattle.bd_turns.proofs.FileOwn.{OwnFalls, has_pieces, no_pieces_of, revoking_falls, some_pieces}
 use Rattle.bd_turns.proofs.EngineStepsOfCalls.{step_is}
 use Rattle.bd_turns.proofs.FoundElements.{find-element}
 use Rattle.bd_turns.proofs.Invalidations.{change_moves, end_detaches, posts_unposted}
 use Rattle.bd_turns.proofs.KeysToRevoke.{MayRevoke, revocable}
-use Rattle.bd_turns.proofs.LegalDetaches.{posting}
+use Rattle.bd_turns.proofs.LegalDetaches.{invalidation_ends, posting}
 use Rattle.bd_turns.proofs.OwnRevocations as own
 use Rattle.bd_turns.proofs.PieceEntries as kernel
 use Rattle.bd_turns.proofs.PieceOwn.{PiecesFall, of_pieces, pieces_fall, polls_fall, step_falls, submits_fall}
@@ -249,7 +250,7 @@ module _ (v : Volume) (m : State) (reached : IsReached v m) (within : AreWithinT
       let next : State = after_polling m p in
       let g : Progress = record before_turn { completed = drop 1 before_turn.completed } in
       let t : Turned v m next p None g = turned.turned_polls v m reached p runs acting in
-      let told = told_of_one (before_turn.completed) (polls_some m p acting) (reached.sound.calls.commands.of_running p.at.process p runs).completed in
+      let told = told_of_one before_turn.completed refl (polls_some m p acting) (reached.sound.calls.commands.of_running p.at.process p runs).completed in
       record {
         turned = t;
         used = refl;
@@ -259,10 +260,24 @@ module _ (v : Volume) (m : State) (reached : IsReached v m) (within : AreWithinT
         leaves = leaves_all m next p None (λ key. refl) refl (λ at owner fd part is. none-some (entries.Detached at owner fd part) is);
       }
     where
-      told_of_one : (done : List Completed) → is_none_of done ≡ false →
+      told_some : (piece : ℕ) (before : List Entry) → (is_answered piece before || has_missed piece before) ≡ true → before ≢ []
+      told_some piece [] told none = false≢true told
+      told_some piece (e ∷ before) told none = let no : e ∷ before ≡ [] = none in cc
+
+      told_of_one : (done : List Completed) → (progress_of m p.at.process).completed ≡ done → is_none_of done ≡ false →
           All (λ (c : Completed). (is_told p c.piece ≡ true) × (c.missed ≡ has_missed c.piece p.before)) done →
           (outstanding (progress_of m p.at.process) ≢ []) × (p.before ≢ [])
-      told_of_one done some all = ?
+      told_of_one [] is some all = absurd (false≢true (sym some))
+      told_of_one (c ∷ rest) is some all =
+          let told = All-head (λ (c : Completed). (is_told p c.piece ≡ true) × (c.missed ≡ has_missed c.piece p.before)) c rest all in
+          let g : Progress = progress_of m p.at.process in
+          let list : outstanding g ≡ c.piece ∷ (map (λ (c : Completed). c.piece) rest ++ pieces_in_hand g.hand ++ g.submitted) =
+          ap (λ (l : List Completed). map (λ (c : Completed). c.piece) l ++ pieces_in_hand g.hand ++ g.submitted) is in (
+            λ none.
+                let no : c.piece ∷ (map (λ (c : Completed). c.piece) rest ++ pieces_in_hand g.hand ++ g.submitted) ≡ [] = sym list ∙ none in
+                cc,
+            told_some c.piece p.before told.0,
+          )
 
   steps_takes : (step : Step) → ((e : Entry) → step.entry ≡ Some e → IsAdded v m p e) → engine_step m p ≡ Some step →
       Takes v m (after_step m p step) p step.entry step.progress
@@ -288,5 +303,120 @@ module _ (v : Volume) (m : State) (reached : IsReached v m) (within : AreWithinT
       same_posted None = refl
       same_posted (Some e) = refl
 
+  -- ---- the invalidation engine
+
+  -- what is known of the call that posted the request at the front
+  record Revoking : Type 0 where
+    made : (at : At) × (owner : ℕ) × (fd : ℕ) × (part : ℕ) × (is_made_by p.call (entries.Cleared at owner fd part) ≡ true)
+    through : holds_throughout p.call ≡ true
+    file : ℕ
+    of : file_of m.store p ≡ Some file
+    held : before_turn.held ≡ Some file
+
+  revoking : posting_place m ≡ Some p → p.before ≢ [] → Revoking
+  revoking place some =
+      let by = posting v m p reached place in
+      let clears = cleared_by v m p by.post.key reached.history runs by.cleared in
+      let key : Key = by.post.key in
+      let through = clears-throughout p.call clears.at key.process key.fd key.part clears.made in
+      let holds = reached.sound.holds_are.begun_holding p.at.process p runs through some in
+      record {
+        made = (clears.at, key.process, key.fd, key.part, clears.made);
+        through = through;
+        file = holds.0;
+        of = holds.1;
+        held = holds.2;
+      }
+
+  changes_takes : (row : Row) (tables : TableState) → posting_place m ≡ Some p → invalidation_of m.tables m.posted ≡ Some (engines.Changes row tables) →
+      p.before ≢ [] → Takes v m (after_effect (record m { tables = tables }) p) p None before_turn
+  changes_takes row tables place acting some =
+      let next : State = after_effect (record m { tables = tables }) p in
+      let t : Turned v m next p None before_turn = turned.turned_changes v m reached p runs tables some in
+      let rev = revoking place some in
+      record {
+        turned = t;
+        used = refl;
+        begun = begun_by (p.before ++ []) (outstanding before_turn) (λ none. some (sym (append-nil p.before) ∙ none));
+        own = λ goes.
+            own_file v m next p None before_turn reached within t (without_pieces rev.through) rev.through rev.file rev.of rev.held
+            (revoking_falls m next p [] rev.file rev.made.0 rev.made.1 rev.made.2 rev.made.3 rev.made.4
+            (own.changing_falls v m next p reached runs (is_on_file (Some rev.file)) (λ key right state. refl) (own.on_file-passes m p rev.file rev.of) row tables
+            place acting refl refl)
+            (λ number call.
+            own.changing_falls v m next p reached runs (is_by p.at.process number) (λ key right state. refl) (own.by-passes m p number call) row tables place
+            acting refl refl)
+            refl)
+            goes;
+        leaves = leaves_changing v m next p reached runs row tables place acting refl refl;
+      }
+
+  ends_takes : (e : Entry) (tables : TableState) → posting_place m ≡ Some p → invalidation_of m.tables m.posted ≡ Some (engines.Ends e tables) →
+      p.before ≢ [] → IsAdded v m p e →
+      ((post : Posted) → slice_get m.posted 0 ≡ Some post → e ≡ entries.Detached post.by post.key.process post.key.fd post.key.part) →
+      Takes v m (after_ending m p e tables) p (Some e) before_turn
+  ends_takes e tables place acting some added entry_is =
+      let next : State = after_ending m p e tables in
+      let by = posting v m p reached place in
+      let is : e ≡ entries.Detached by.post.by by.post.key.process by.post.key.fd by.post.key.part = entry_is by.post by.first in
+      let t : Turned v m next p (Some e) before_turn =
+      turned.turned_ends v m reached p runs e tables some added (ap needs_hold is) in
+      let rev = revoking place some in
+      let size : size_in next.store rev.file ≡ size_in m.store rev.file =
+      ap (λ (s : Store). size_in s rev.file) t.store ∙ files.kept_size m.store p.call e rev.file (ap files.keeps_files is) in
+      record {
+        turned = t;
+        used = refl;
+        begun = begun_by (p.before ++ e ∷ []) (outstanding before_turn) (some_pushed p.before e);
+        own = λ goes.
+            own_file v m next p (Some e) before_turn reached within t (without_pieces rev.through) rev.through rev.file rev.of rev.held
+            (revoking_falls m next p (e ∷ []) rev.file rev.made.0 rev.made.1 rev.made.2 rev.made.3 rev.made.4
+            (own.ending_falls v m next p reached runs (is_on_file (Some rev.file)) (λ key right state. refl) (own.on_file-passes m p rev.file rev.of) e tables
+            place acting refl refl)
+            (λ number call.
+            own.ending_falls v m next p reached runs (is_by p.at.process number) (λ key right state. refl) (own.by-passes m p number call) e tables place
+            acting refl refl)
+            size)
+            goes;
+        leaves =
+            leaves_ending v m next p reached runs e tables place acting refl refl
+            (λ at. entry_is at.post (ap (λ (l : List Posted). slice_get l 0) at.list));
+      }
+
+-- ---- all turns
+
+effective_within : (v : Volume) (m : State) → IsReached v m → EntriesAreNext v m → AreWithinTurns m → (next : State) → Effective m next → AreWithinTurns next
+effective_within v m reached legal within next (adds p row e runs acting) =
+    kept_within v m (after_adding m p row e) p (Some e) (with_hold p.call row (file_of m.store p) (progress_of m p.at.process)) reached within
+    (adds_takes v m reached within p runs row e (legal p e (by_processor row runs acting)) acting)
+effective_within v m reached legal within next (posts p key runs acting) =
+    kept_within v m (after_posting m p (record { key = key; by = p.at })) p None
+    (with_hold p.call rows.Post (file_of m.store p) (progress_of m p.at.process)) reached within (posts_takes v m reached within p runs key acting)
+effective_within v m reached legal within next (submits p piece runs acting) =
+    let old : Progress = progress_of m p.at.process in
+    kept_within v m (after_submitting m p piece) p None (record old { submitted = old.submitted ++ piece ∷ [] }) reached within
+    (submits_takes v m reached within p runs piece acting)
+effective_within v m reached legal within next (polls p runs acting) =
+    let old : Progress = progress_of m p.at.process in
+    kept_within v m (after_polling m p) p None (record old { completed = drop 1 old.completed }) reached within
+    (polls_takes v m reached within p runs acting)
+effective_within v m reached legal within next (steps p step runs stepping) =
+    kept_within v m (after_step m p step) p step.entry step.progress reached within
+    (steps_takes v m reached within p runs step (λ e is. legal p e (by_engine step runs stepping is)) stepping)
+effective_within v m reached legal within next (changes p row tables place acting) =
+    let after_it : State = after_effect (record m { tables = tables }) p in
+    let moved = change_moves m after_it p row tables reached.sound.holds_are.posted place acting refl refl in
+    kept_within v m after_it p None (progress_of m p.at.process) reached within (changes_takes v m reached within p moved.1 row tables place acting moved.0)
+effective_within v m reached legal within next (ends p e tables place acting) =
+    let after_it : State = after_ending m p e tables in
+    let detached = end_detaches m after_it p e tables reached.sound.holds_are.posted place acting refl refl in
+    kept_within v m after_it p (Some e) (progress_of m p.at.process) reached within
+    (ends_takes v m reached within p detached.1 e tables place acting detached.0 (legal p e (by_invalidation tables place acting))
+    (λ post first. sym (invalidation_ends m.tables tables m.posted post e first acting).entry))
+
 pub turns_keep_within : TurnsKeepWithin
-turns_keep_within v m actor reached legal within is = ?
+turns_keep_within v m actor reached legal within is = by (after_turn m actor) (turn_leads m actor)
+  where
+    by : (next : State) → Leads m next → AreWithinTurns next
+    by next (stays same) = subst AreWithinTurns (sym same) within
+    by next (acts effect) = effective_within v m reached legal within next effect
