@@ -158,7 +158,7 @@ maps_never : {X : Type 0} (f : X → Entry) (o : Option X) (e : Entry) → ((x :
     is_detach e ≡ false
 maps_never f o e never is = let found = map_from f o e is in ap is_detach (sym found.2) ∙ never found.0
 
-acts_detach_nothing : (s : Store) (p : Place) (act : Act) (e : Entry) → entry_of_act s p act ≡ Some e → is_detach e ≡ false
+pub acts_detach_nothing : (s : Store) (p : Place) (act : Act) (e : Entry) → entry_of_act s p act ≡ Some e → is_detach e ≡ false
 acts_detach_nothing s p (acts.Busy file holder) e is = absurd (none-some e is)
 acts_detach_nothing s p (acts.Refuse piece reason) e is = ap is_detach (sym (same_Some (entries.Refused p.at piece reason) e is))
 acts_detach_nothing s p (acts.Opened file fd) e is = by p.call is

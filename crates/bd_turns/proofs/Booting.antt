@@ -18,7 +18,7 @@ use Rattle.bd_entry.specs.Store.{start_store}
 use Rattle.bd_entry.proofs.HistoryLaws.{is_call}
 use Rattle.bd_entry.proofs.StoreLaws.{start_is_valid}
 use Rattle.bd_tables.specs.declared.state.Walk.TheVariants as walks
-use Rattle.bd_turns.proofs.HoldsAtBoot.{all_new, holds_at_boot}
+use Rattle.bd_turns.proofs.HoldsAtBoot.{all_new, holds_at_boot, within_at_boot}
 use Rattle.bd_turns.proofs.KeptCommands.{no_commands}
 use Rattle.bd_turns.proofs.RunningPlaces.{runs_at}
 use Rattle.bd_turns.proofs.StayingDescriptors.{none_unended}
@@ -81,4 +81,5 @@ boot_is_reached v script sound limits = record {
     tables_are = tables_at_boot v script;
     holds_are = holds_at_boot (start_store v script) script;
   };
+  within = within_at_boot (start_store v script) script;
 }

@@ -95,12 +95,12 @@ none_before call at before of ends unfinished =
     by [] none = refl
     by (e ∷ list) none = absurd (false≢true (sym none))
 
-create_ends : (name : List ℕ) (perms : ℕ) (e : Entry) → is_made_by (Create name perms) e ≡ true → is_end_of (Create name perms) e ≡ true
+pub create_ends : (name : List ℕ) (perms : ℕ) (e : Entry) → is_made_by (Create name perms) e ≡ true → is_end_of (Create name perms) e ≡ true
 create_ends name perms (entries.Created at file n q) made = refl
 create_ends name perms (entries.Refused at None reason) made = refl
 create_ends name perms e made = absurd (false≢true made)
 
-size_ends : (fd : ℕ) (e : Entry) → is_made_by (Size fd) e ≡ true → is_end_of (Size fd) e ≡ true
+pub size_ends : (fd : ℕ) (e : Entry) → is_made_by (Size fd) e ≡ true → is_end_of (Size fd) e ≡ true
 size_ends fd (entries.SizeRead at f size) made = refl
 size_ends fd (entries.Refused at None reason) made = refl
 size_ends fd e made = absurd (false≢true made)

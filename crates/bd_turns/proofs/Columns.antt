@@ -4,6 +4,7 @@ use Rattle.bd_base.specs.declared.volume.Volume.{Volume}
 use Rattle.bd_entry.specs.Laws.{IsHistory}
 use Rattle.bd_turns.specs.Added.{EntriesAreNext}
 use Rattle.bd_turns.specs.Reached.{IsActor, IsReached}
+use Rattle.bd_turns.specs.Rest.{AreWithinTurns}
 use Rattle.bd_turns.specs.Sound.{AreCallsSound, AreHoldsSound, AreTablesSound}
 use Rattle.bd_turns.specs.State.{State}
 use Rattle.bd_turns.specs.Turns.{after_turn}
@@ -30,3 +31,7 @@ TurnsKeepHolds = TurnsKeep (λ v next. AreHoldsSound next)
 -- and the journal is a history of the script, which leads to the store
 abbrev pub TurnsKeepHistory : Type 0
 TurnsKeepHistory = TurnsKeep (λ v next. IsHistory v next.script next.journal next.store)
+
+-- and no call takes more turns than any call takes at most
+abbrev pub TurnsKeepWithin : Type 0
+TurnsKeepWithin = TurnsKeep (λ v next. AreWithinTurns next)

@@ -12,7 +12,7 @@ use Rattle.bd_entry.specs.Calls.{Place, call_at, calls_of}
 use Rattle.bd_entry.proofs.HistoryLaws.{process_there}
 use Rattle.bd_turns.specs.Processors.{running_of}
 use Rattle.bd_turns.specs.Reached.{IsReached}
-use Rattle.bd_turns.specs.Rest.{AreWithinTurns, RestFalls, turns_left}
+use Rattle.bd_turns.specs.Rest.{AreWithinTurns, turns_left}
 use Rattle.bd_turns.specs.State.{Progress, State, new_progress, progress_of, running}
 use Rattle.bd_turns.specs.Turns.{Acting, LowersRest, Nothing, Outcome, Waiting, answer_in, outcome_of, process_count, rest_of, state_after, turns_per_call}
 use Rattle.bd_turns.proofs.CallsAfterTurns.{runs_at}
@@ -20,6 +20,7 @@ use Rattle.bd_turns.proofs.Cases.{Effective}
 use Rattle.bd_turns.proofs.EffectiveOutcomes.{IsOfKind, outcomes_are_of_kinds}
 use Rattle.bd_turns.proofs.SpentTurns.{Spends, effective_spends}
 use Rattle.bd_turns.proofs.Sums.{changed_sum, sum_at, sum_below_by, sum_from, sum_times}
+use Rattle.bd_turns.specs.Progress.{RestFalls}
 
 -- how many calls of a process have not ended, and how many turns were used of the running one
 abbrev open_calls : Script → State → ℕ → ℕ
@@ -110,8 +111,8 @@ outcome_lowers m (Waiting wait) of lowers = refl
 outcome_lowers m (Acting row next added) of lowers = lowers next of
 
 pub rest_falls : RestFalls
-rest_falls v m actor reached within is =
+rest_falls v m actor reached is =
     outcome_lowers m (outcome_of m actor) (outcomes_are_of_kinds m actor)
     (λ next effective.
     let spends = effective_spends v m next reached effective in
-    spending_lowers v m next spends.0 reached within spends.1)
+    spending_lowers v m next spends.0 reached reached.within spends.1)

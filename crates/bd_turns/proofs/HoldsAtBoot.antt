@@ -19,6 +19,7 @@ use Rattle.bd_turns.specs.Sound.{AreHoldsSound, is_clear, is_release}
 use Rattle.bd_turns.specs.State.{Progress, State, boot_state, new_progress, outstanding, progress_of, running}
 use Rattle.bd_turns.proofs.ActionsOfCalls.{empty-unbegun, held_from}
 use Rattle.bd_turns.proofs.CallsAfterTurns.{runs_at}
+use Rattle.bd_turns.specs.Rest.{AreWithinTurns}
 
 -- no process has begun
 pub all_new : (processes : List Process) (q : ℕ) → let new : Process → Progress = λ p. new_progress in
@@ -65,4 +66,13 @@ module _ (start : Store) (script : Script) where
       without_rights = λ released file of. absurd (false≢true (sym (ap (list_any is_release) (no_entries q p is)) ∙ released));
       lowers = λ cleared unreleased file of. absurd (false≢true (sym (ap (list_any is_clear) (no_entries q p is)) ∙ cleared));
     };
+  }
+
+  -- no call has begun, so none took a turn
+  pub within_at_boot : AreWithinTurns m
+  within_at_boot = record {
+    none = λ q none. ap (λ (x : Progress). x.used) (progress_new q);
+    new = λ q p is unbegun. (ap (λ (x : Progress). x.used) (progress_new q), ap (λ (x : Progress). x.held) (progress_new q));
+    within = λ q p is begun.
+        absurd (both_ways (has_begun (running_of m p)) (empty-unbegun m p (no_entries q p is) (ap outstanding (progress_new p.at.process))) begun);
   }

@@ -50,7 +50,7 @@ detached_needs_not : (e : Entry) (by : _) (owner fd part : ℕ) → e ≡ entrie
 detached_needs_not e by owner fd part is = ap needs_hold is
 
 -- so after each kind of effective turn
-effective : (v : Volume) (m : State) → IsReached v m → EntriesAreNext v m → (next : State) → Effective m next → AreHoldsSound next
+pub effective : (v : Volume) (m : State) → IsReached v m → EntriesAreNext v m → (next : State) → Effective m next → AreHoldsSound next
 effective v m reached legal next (adds p row e runs acting) =
     let added = legal p e (by_processor row runs acting) in
     let g : Progress = with_hold p.call row (file_of m.store p) (progress_of m p.at.process) in

@@ -103,3 +103,13 @@ pub mod TurnsKept
 pub mod LinesKept
 pub mod HeldTranslations
 pub mod Releases
+pub mod PieceOwn
+pub mod PieceEntries
+pub mod SizesAfter
+pub mod AttachTurns
+pub mod FileOwn
+pub mod OtherTurns
+pub mod RightsLeft
+pub mod TurnBounds
+pub mod WithinAfterTurns
+pub mod KeepsWithin

@@ -28,11 +28,11 @@ use Rattle.bd_turns.proofs.ActionsOfCalls.{own_or_revoke}
 abbrev pub Fails : {X : Type 0} → (X → Bool) → Option X → Type 0
 Fails test o = option_map_or test o false ≡ false
 
-fails-map : {X Y : Type 0} (test : Y → Bool) (f : X → Y) (o : Option X) → ((x : X) → test (f x) ≡ false) → Fails test (option_map f o)
+pub fails-map : {X Y : Type 0} (test : Y → Bool) (f : X → Y) (o : Option X) → ((x : X) → test (f x) ≡ false) → Fails test (option_map f o)
 fails-map test f None each = refl
 fails-map test f (Some x) each = each x
 
-fails-then : {X Y : Type 0} (test : Y → Bool) (f : X → Option Y) (o : Option X) → ((x : X) → Fails test (f x)) → Fails test (option_and_then f o)
+pub fails-then : {X Y : Type 0} (test : Y → Bool) (f : X → Option Y) (o : Option X) → ((x : X) → Fails test (f x)) → Fails test (option_and_then f o)
 fails-then test f None each = refl
 fails-then test f (Some x) each = each x
 

@@ -138,7 +138,7 @@ module _ (v : Volume) (m next : State) (p : Place) (reached : IsReached v m) (ru
   -- ---- a request
 
   -- a key that is posted is one of an own right, which is cleared and not posted yet
-  own_unposted : (key : Key) → unposted m (keys_to_revoke m.store p p.call) ≡ Some key →
+  pub own_unposted : (key : Key) → unposted m (keys_to_revoke m.store p p.call) ≡ Some key →
       (right : Right) × IsOwnKey m p key right × (right.state ≡ states.Cleared) × (is_posted m.posted key ≡ false)
   own_unposted key is =
       let keys : List Key = keys_to_revoke m.store p p.call in
@@ -190,14 +190,15 @@ module _ (v : Volume) (m next : State) (p : Place) (reached : IsReached v m) (ru
   -- ---- the turns of the invalidation engine
 
   -- the right of the request at the front
-  record AtFront : Type 0 where
-    post : Posted
-    rest : List Posted
-    list : m.posted ≡ post ∷ rest
-    right : Right
-    own : IsOwnKey m p post.key right
+  pub record AtFront : Type 0 where
+    pub post : Posted
+    pub rest : List Posted
+    pub list : m.posted ≡ post ∷ rest
+    pub right : Right
+    pub own : IsOwnKey m p post.key right
+    pub held : (progress_of m p.at.process).held ≡ Some right.file
 
-  at_front : posting_place m ≡ Some p → AtFront
+  pub at_front : posting_place m ≡ Some p → AtFront
   at_front place =
       let by = posting v m p reached place in
       let post : Posted = by.post in
@@ -212,6 +213,7 @@ module _ (v : Volume) (m next : State) (p : Place) (reached : IsReached v m) (ru
         rest = rest.0;
         list = rest.1;
         right = right.0;
+        held = ap (λ (n : ℕ). (progress_of m n).held) (sym process) ∙ held;
         own = record {
           there = right.1;
           of_file = ap (file_of m.store) (sym same) ∙ holds.2;
@@ -224,7 +226,7 @@ module _ (v : Volume) (m next : State) (p : Place) (reached : IsReached v m) (ru
       front_rest (other ∷ rest) post first = (rest, ap (λ (x : Posted). x ∷ rest) (same_Some other post first))
 
   -- what the step of the engine for the right at the front is
-  step_at_front : (at : AtFront) (i : Invalidation) → invalidation_of m.tables m.posted ≡ Some i →
+  pub step_at_front : (at : AtFront) (i : Invalidation) → invalidation_of m.tables m.posted ≡ Some i →
       invalidate m.tables at.post at.right.state ≡ Some i
   step_at_front at i acting =
       let found = then_from (λ (r : Right). invalidate m.tables at.post r.state) (fin.get m.tables.rights at.post.key) i
@@ -244,7 +246,7 @@ module _ (v : Volume) (m next : State) (p : Place) (reached : IsReached v m) (ru
       (subst (λ (b : Bool). right_turns b low.state + 1 ≤ right_turns b at.right.state) (sym there) low.less)
 
   -- where a request ends, its right is detached
-  ends_to : (post : Posted) (entry : Entry) (tables : TableState) (state : RightState) → invalidate m.tables post state ≡ Some (engines.Ends entry tables) →
+  pub ends_to : (post : Posted) (entry : Entry) (tables : TableState) (state : RightState) → invalidate m.tables post state ≡ Some (engines.Ends entry tables) →
       tables ≡ effects.detach m.tables post.key
   ends_to post entry tables states.On does = absurd (none-some (engines.Ends entry tables) does)
   ends_to post entry tables states.Cleared does = absurd (by (nat_eq (engines_in m.tables.walks post.key) 0) (ap ended_to (same_Some (drain m.tables post.key) (engines.Ends entry tables) does)))

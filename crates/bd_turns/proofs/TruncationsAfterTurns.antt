@@ -100,7 +100,7 @@ module _ (v : Volume) (m next : State) (p : Place) (entry : Option Entry) (g : P
   mine e is = holds.at_process v m next p entry g reached t e is
 
   -- a right is attached on the file of the call
-  attached_file : (at : At) (fd part : ℕ) (d : Descriptor) → entry ≡ Some (entries.Attached at fd part) → descriptor_at m.store at.process fd ≡ Some d →
+  pub attached_file : (at : At) (fd part : ℕ) (d : Descriptor) → entry ≡ Some (entries.Attached at fd part) → descriptor_at m.store at.process fd ≡ Some d →
       file_of m.store p ≡ Some d.file
   attached_file at fd part d is there =
       let e : Entry = entries.Attached at fd part in
@@ -139,7 +139,7 @@ module _ (v : Volume) (m next : State) (p : Place) (entry : Option Entry) (g : P
   -- ---- the truncation of another process
 
   -- the file of the call of the turn is not one that another process holds
-  other_than : (q file : ℕ) → q ≢ process → (progress_of m q).held ≡ Some file → (e : Entry) → entry ≡ Some e →
+  pub other_than : (q file : ℕ) → q ≢ process → (progress_of m q).held ≡ Some file → (e : Entry) → entry ≡ Some e →
       needs_hold e ≡ true → (other : ℕ) → file_of m.store p ≡ Some other → file ≢ other
   other_than q file differ held e is needs other of same =
       differ (t.alone e is needs file q (of ∙ ap Some (sym same)) held)
@@ -154,7 +154,7 @@ module _ (v : Volume) (m next : State) (p : Place) (entry : Option Entry) (g : P
       other_than q file differ held (entries.Attached at fd part) is refl d.file (attached_file at fd part d is there) (sym same)
   other_unattached q file differ held e is = tt
 
-  other_size : (q file : ℕ) → q ≢ process → (progress_of m q).held ≡ Some file → (e : Entry) → entry ≡ Some e → LeavesSize m.store file e
+  pub other_size : (q file : ℕ) → q ≢ process → (progress_of m q).held ≡ Some file → (e : Entry) → entry ≡ Some e → LeavesSize m.store file e
   other_size q file differ held (entries.Extended at other to block) is =
       let e : Entry = entries.Extended at other to block in
       other_than q file differ held e is refl other (right_file e other is ((t.added e is).next.keeps RightFile))

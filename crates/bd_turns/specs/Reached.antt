@@ -8,6 +8,7 @@ use Rattle.bd_base.specs.Volumes.{IsSoundVolume}
 use Rattle.bd_entry.specs.Laws.{IsHistory}
 use Rattle.bd_entry.specs.Store.{start_store}
 use Rattle.bd_turns.specs.Added.{EntriesAreNext}
+use Rattle.bd_turns.specs.Rest.{AreWithinTurns}
 use Rattle.bd_turns.specs.Sound.{Sound}
 use Rattle.bd_turns.specs.State.{State, boot_state}
 use Rattle.bd_turns.specs.Turns.{after_turn, process_count}
@@ -16,10 +17,12 @@ use Rattle.bd_turns.specs.Turns.{after_turn, process_count}
 abbrev pub IsActor : State → ℕ → Type 0
 IsActor m actor = actor < 2 * process_count m + 1
 
--- the journal is a history of the script from this volume that leads to the store, and the state is sound
+-- the journal is a history of the script from this volume that leads to the store, the state is sound, and no call took
+-- more turns than it may
 pub record IsReached (v : Volume) (m : State) : Type 0 where
   pub history : IsHistory v m.script m.journal m.store
   pub sound : Sound m
+  pub within : AreWithinTurns m
 
 -- a machine begins so
 abbrev pub BootIsReached : Type 0

@@ -8,7 +8,6 @@ use Rattle.bd_base.specs.declared.limits.TheConstants.{BLOCK_SIZE, DESCRIPTORS, 
 use Rattle.bd_base.specs.declared.script.Call.{Call}
 use Rattle.bd_base.specs.declared.script.Call.TheVariants.{Enter, Create, Read, Write, Truncate, Unlink, Size, Map, Close, RawRead, RawWrite}
 use Rattle.bd_base.specs.declared.script.How.TheVariants as hows
-use Rattle.bd_base.specs.declared.volume.Volume.{Volume}
 use Rattle.bd_base.specs.Files.{blocks_for}
 use Rattle.bd_entry.specs.Actions.{has_begun, is_untouched, piece_numbers}
 use Rattle.bd_entry.specs.Calls.{Place, fd_of, is_answered}
@@ -17,11 +16,8 @@ use Rattle.bd_tables.specs.declared.state.Right.{Right}
 use Rattle.bd_tables.specs.declared.state.RightState.{RightState}
 use Rattle.bd_tables.specs.declared.state.RightState.TheVariants as states
 use Rattle.bd_tables.specs.State.{Rights}
-use Rattle.bd_turns.specs.Added.{EntriesAreNext}
 use Rattle.bd_turns.specs.Processors.{is_posted, running_of}
-use Rattle.bd_turns.specs.Reached.{IsActor, IsReached}
 use Rattle.bd_turns.specs.State.{InHand, Phase, Looking, Reading, Filling, Moving, Missing, Retiring, Completing, Posted, Progress, State, progress_of, running}
-use Rattle.bd_turns.specs.Turns.{LowersRest, after_turn, answer_of}
 
 -- ---- revocation
 
@@ -171,17 +167,3 @@ pub record AreWithinTurns (m : State) : Type 0 where
       ((progress_of m process).used ≡ 0) × ((progress_of m process).held ≡ None)
   pub within : (process : ℕ) (p : Place) → running m process ≡ Some p → has_begun (running_of m p) ≡ true →
       (progress_of m process).used + turns_left m p ≤ most_turns
-
--- ---- the laws
-
--- each turn of any actor keeps it so
-abbrev pub TurnsKeepWithin : Type 0
-TurnsKeepWithin =
-    (v : Volume) (m : State) (actor : ℕ) → IsReached v m → EntriesAreNext v m → AreWithinTurns m → IsActor m actor →
-    AreWithinTurns (after_turn m actor)
-
--- so each effective turn lowers the rest
-abbrev pub RestFalls : Type 0
-RestFalls =
-    (v : Volume) (m : State) (actor : ℕ) → IsReached v m → AreWithinTurns m → IsActor m actor →
-    LowersRest (answer_of m actor) m (after_turn m actor)

@@ -11,7 +11,8 @@ pub fn turns_add_legally()
     ensures { TurnsAddLegally }
 {}
 
-/// After each turn of any actor the journal is a history of the script, which leads to the store, and the state is sound.
+/// After each turn of any actor the journal is a history of the script, which leads to the store, the state is sound, and no
+/// call took more turns than it may.
 pub fn turns_keep_it()
     ensures { TurnsKeepIt }
 {}
