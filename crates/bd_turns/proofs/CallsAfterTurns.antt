@@ -13,7 +13,6 @@ use Rattle.bd_entry.specs.Actions.{is_none_of}
 use Rattle.bd_entry.specs.Calls.{Place, at_of, call_at, entries_of, is_ended_by, same_call}
 use Rattle.bd_entry.proofs.CallOrder.{entries_of-joined, entries_of-other, other_process, same_self}
 use Rattle.bd_entry.proofs.HistoryLaws.{process_there}
-use Rattle.bd_entry.proofs.NextActs.{map_from}
 use Rattle.bd_turns.proofs.Cases.{running_process}
 pub use Rattle.bd_turns.proofs.RunningPlaces.{RunsAt, runs_at}
 use Rattle.bd_turns.specs.Sound.{AreCallsSound, HasProcesses}

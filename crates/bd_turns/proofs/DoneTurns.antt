@@ -14,7 +14,6 @@ use Rattle.bd_entry.specs.Calls.{Place, at_of, call_at, entries_of, same_call}
 use Rattle.bd_entry.proofs.CallOrder.{entries_of-joined, entries_of-other, numbered, other_process, same_self}
 use Rattle.bd_entry.proofs.HistoryLaws.{process_there}
 use Rattle.bd_entry.proofs.NextActs.{map_from}
-use Rattle.bd_turns.proofs.Cases.{running_process}
 use Rattle.bd_turns.proofs.RunningPlaces.{RunsAt, runs_at}
 use Rattle.bd_turns.specs.Added.{IsAdded}
 use Rattle.bd_turns.specs.Sound.{AreCallsSound}

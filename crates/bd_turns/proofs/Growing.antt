@@ -1,7 +1,6 @@
 -- What each turn leaves as it was: the script, and the entries that the journal has.
-use Rattle.std.proofs.Common.{◌≡◌, ℕ, ◌*◌, ◌-◌, Bool, true, false, List, [], ◌∷◌, ◌++◌, Option, None, Some, cond, refl, sym, ap, ◌∙◌, append_assoc}
-use Rattle.std.specs.Prelude.{nat_lt}
-use Rattle.std.specs.Option.{option_map_or, option_to_list}
+use Rattle.std.proofs.Common.{◌≡◌, ℕ, List, [], ◌∷◌, ◌++◌, Option, None, Some, refl, sym, ap, ◌∙◌, append_assoc}
+use Rattle.std.specs.Option.{option_to_list}
 use Rattle.std.proofs.lemmas.List.{append-nil}
 use Rattle.bd_entry.specs.declared.entry.Entry.{Entry}
 use Rattle.bd_entry.specs.Calls.{Place}
@@ -12,8 +11,8 @@ use Rattle.bd_turns.specs.Engines.{Invalidation, Step, engine_step, invalidation
 use Rattle.bd_turns.specs.Laws.{OtherTurnsChangeNothing, RunsOnlyAdd, ScriptsStay, TurnsOnlyAdd}
 use Rattle.bd_turns.specs.Processors as processors
 use Rattle.bd_turns.specs.Processors.{Action, next_action}
-use Rattle.bd_turns.specs.State.{State, running}
-use Rattle.bd_turns.specs.Turns.{Outcome, Nothing, Waiting, Acting, after_step, after_turn, answer_in, engine_outcome, entries_added, invalidation_outcome, outcome_of, outcome_of_action, outcome_of_invalidation, posting_place, process_count, processor_outcome, state_after, visible_of}
+use Rattle.bd_turns.specs.State.{State}
+use Rattle.bd_turns.specs.Turns.{Outcome, Nothing, Waiting, Acting, after_step, after_turn, answer_in, entries_added, outcome_of, outcome_of_action, outcome_of_invalidation, state_after, visible_of}
 use Rattle.bd_turns.proofs.Cases.{each_outcome}
 
 -- an outcome adds its entries at the end of the journal, and leaves the script

@@ -1,10 +1,9 @@
 -- No turn in the name of one call leaves another call more turns.
-use Rattle.std.proofs.Common.{◌≡◌, ◌≢◌, ◌⊎◌, inl, inr, ℕ, zero, suc, ◌+◌, ◌-◌, ◌*◌, ◌<◌, ◌≤◌, Bool, true, false, not, ◌&&◌, ◌||◌, cond, List, [], ◌∷◌, ◌++◌, length, Option, None, Some, refl, sym, ap, ◌∙◌, subst, arith, ⊎_elim}
+use Rattle.std.proofs.Common.{◌≡◌, ◌≢◌, ℕ, ◌+◌, ◌*◌, ◌≤◌, Bool, true, false, List, [], ◌∷◌, ◌++◌, length, Option, None, Some, refl, sym, ap, ◌∙◌, subst, arith, ⊎_elim}
 use Rattle.std.specs.Prelude.{count_by, nat_eq, slice_index_or}
-use Rattle.std.specs.Option.{option_and_then, option_map, option_map_or, option_to_list}
-use Rattle.std.specs.FinMap as fin
-use Rattle.std.proofs.lemmas.Bool.{and_left, both_ways, cases_Bool, false≢true, ne_eqb}
-use Rattle.std.proofs.lemmas.Option.{none-some, same_Some}
+use Rattle.std.specs.Option.{option_and_then, option_map, option_map_or}
+use Rattle.std.proofs.lemmas.Bool.{and_left, both_ways, false≢true, ne_eqb}
+use Rattle.std.proofs.lemmas.Option.{same_Some}
 use Rattle.bd_base.specs.declared.journal.At.{At}
 use Rattle.bd_base.specs.declared.key.Key.{Key}
 use Rattle.bd_base.specs.declared.script.Call.{Call}
@@ -27,7 +26,6 @@ use Rattle.bd_entry.proofs.EffectsOnFiles.{effect_of-files}
 use Rattle.bd_entry.proofs.NextActs.{map_from, then_from}
 use Rattle.bd_entry.proofs.Slots.{some_of}
 use Rattle.bd_tables.specs.declared.state.Right.{Right}
-use Rattle.bd_tables.specs.State as tables
 use Rattle.bd_tables.specs.Effects as changes
 use Rattle.bd_turns.specs.Processors.{running_of}
 use Rattle.bd_turns.specs.Reached.{IsReached}

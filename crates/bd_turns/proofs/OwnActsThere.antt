@@ -1,8 +1,8 @@
 -- The own action of a call that is allowed is there: opens, maps, creates, truncations, removals, sizes and closes.
-use Rattle.std.proofs.Common.{◌≡◌, ◌≢◌, ◌⊎◌, inl, inr, ℕ, zero, suc, ◌+◌, ◌-◌, ◌<◌, ◌≤◌, Bool, true, false, not, cond, List, [], ◌∷◌, length, Option, None, Some, refl, sym, ap, ◌∙◌, subst, arith, get_or, ⊎_elim}
-use Rattle.std.specs.Prelude.{is_some, nat_lt, slice_get}
+use Rattle.std.proofs.Common.{◌≡◌, ℕ, suc, ◌-◌, ◌<◌, Bool, true, false, not, cond, List, [], ◌∷◌, length, Option, None, Some, refl, sym, ap, ◌∙◌, arith, get_or, ⊎_elim}
+use Rattle.std.specs.Prelude.{is_some, nat_lt}
 use Rattle.std.specs.Option.{option_and_then, option_map, option_map_or, option_or}
-use Rattle.std.proofs.lemmas.Bool.{and_parts, both_ways, false≢true, ltb-true}
+use Rattle.std.proofs.lemmas.Bool.{and_parts, false≢true, ltb-true}
 use Rattle.std.proofs.lemmas.Option.{none-some, slice_get-get_or}
 use Rattle.bd_base.specs.declared.reason.Reason.{Reason}
 use Rattle.bd_base.specs.declared.reason.Reason.TheVariants as reasons
@@ -19,15 +19,15 @@ use Rattle.bd_entry.specs.declared.act.Act.{Act}
 use Rattle.bd_entry.specs.declared.act.Act.TheVariants as acts
 use Rattle.bd_entry.specs.declared.entry.Entry.{Entry}
 use Rattle.bd_entry.specs.declared.entry.Entry.TheVariants as entries
-use Rattle.bd_entry.specs.Actions.{Holders, Running, attach_by, attach_or_map, entry_of_act, is_none_of, is_to_shrink, opened_entry, open_file, own_act, remove_file, released_entry, truncate_to}
-use Rattle.bd_entry.specs.Calls.{Place, fd_of, fd_of_call}
+use Rattle.bd_entry.specs.Actions.{Holders, Running, attach_by, attach_or_map, is_none_of, is_to_shrink, opened_entry, open_file, remove_file, truncate_to}
+use Rattle.bd_entry.specs.Calls.{fd_of, fd_of_call}
 use Rattle.bd_entry.specs.NextEntries.{running}
 use Rattle.bd_entry.specs.Refusals.{denial, file_of, first_refusal, growth_reason_of, next_size, reason_if, truncate_refusal, unlink_denial_of}
 use Rattle.bd_entry.specs.Store.{Descriptor, Holder, Store, Valid, blocks_in, descriptor_at, file_in, first_open, lowest_fd, next_part, size_in}
 use Rattle.bd_entry.proofs.NextActs.{map_or_from, open_descriptor, or_none}
 use Rattle.bd_entry.proofs.NextFiles.{cond_from, reason_if-none}
 use Rattle.bd_entry.proofs.Slots.{some_of}
-use Rattle.bd_turns.proofs.BusyEngines.{There, there_map}
+use Rattle.bd_turns.proofs.BusyEngines.{There}
 use Rattle.bd_turns.proofs.NextActsThere.{HasOwn, IsDoable, adds, IsDone}
 
 pub not_false : (b : Bool) → not b ≡ false → b ≡ true
@@ -53,7 +53,7 @@ open_there s r name mode how is allowed =
       acts.Opened found.0 fd.0,
       ap open_by of ∙ ap (option_map (acts.Opened found.0)) fd.1,
       adds (acts.Opened found.0 fd.0) (entries.Opened r.place.at found.0 fd.0 mode how)
-      (ap (λ (c : Call). opened_entry r.place c found.0 fd.0) is),
+          (ap (λ (c : Call). opened_entry r.place c found.0 fd.0) is),
     ))
     (λ none. absurd (none-some reasons.NoFile (sym none.1)))
     (map_or_from why (id_of name s.files) (Some reasons.NoFile) None allowed)

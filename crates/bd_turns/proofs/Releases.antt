@@ -1,6 +1,5 @@
 -- A block that is released is one that no held translation names.
-use Rattle.std.proofs.Common.{◌≡◌, ℕ, ◌*◌, ◌-◌, cond, Bool, true, false, not, nat_eq, List, [], ◌∷◌, length, position, slice_get, Option, None, Some, arith, refl, sym, ap, ◌∙◌, subst}
-use Rattle.std.specs.Prelude.{nat_lt}
+use Rattle.std.proofs.Common.{◌≡◌, ℕ, ◌-◌, cond, Bool, true, false, not, nat_eq, List, [], ◌∷◌, length, position, slice_get, Option, None, Some, arith, refl, sym, ap, ◌∙◌, subst}
 use Rattle.std.specs.FinMap as fin
 use Rattle.std.specs.Option.{option_and_then, option_map_or}
 use Rattle.std.proofs.lemmas.Bool.{both_ways, false≢true}
@@ -34,7 +33,7 @@ use Rattle.bd_turns.specs.Processors as processors
 use Rattle.bd_turns.specs.Processors.{Action, next_action, row_of_entry}
 use Rattle.bd_turns.specs.Reached.{IsReached}
 use Rattle.bd_turns.specs.State.{Posted, State, running}
-use Rattle.bd_turns.specs.Turns.{Outcome, Nothing, Acting, after_adding, answer_in, engine_outcome, entries_added, invalidation_outcome, outcome_of, outcome_of_action, outcome_of_invalidation, posting_place, process_count, processor_outcome, state_after}
+use Rattle.bd_turns.specs.Turns.{Outcome, Nothing, Acting, after_adding, answer_in, entries_added, outcome_of, outcome_of_action, outcome_of_invalidation, state_after}
 use Rattle.bd_turns.proofs.AddedEntries.{added_keeps}
 use Rattle.bd_turns.proofs.Cases.{each_outcome}
 use Rattle.bd_turns.proofs.EngineStepsOfTables.{IsStep, completes, engine_steps, enters, fills, looks, misses, moves, reads, retires}

@@ -1,5 +1,5 @@
 -- How many effective turns are left to a running call at most, and that none takes more than the rest of a run allows it.
-use Rattle.std.specs.Prelude.{◌≡◌, ℕ, ◌+◌, ◌-◌, ◌*◌, ◌/◌, ◌<◌, ◌≤◌, nat_eq, nat_lt, cond, Bool, true, false, not, ◌&&◌, List, [], ◌∷◌, map, length, count_by, sum, is_some, Option, None, Some}
+use Rattle.std.specs.Prelude.{◌≡◌, ℕ, ◌+◌, ◌-◌, ◌*◌, ◌/◌, ◌≤◌, nat_eq, nat_lt, cond, Bool, true, false, not, ◌&&◌, List, map, length, count_by, sum, Option, None, Some}
 use Rattle.std.specs.Option.{option_map_or}
 use Rattle.std.specs.List.{range_with_len}
 use Rattle.std.specs.FinMap as fin
