@@ -16,7 +16,7 @@ use Rattle.bd_base.specs.Scripts.{IsWithinLimits}
 use Rattle.bd_base.specs.Volumes.{IsSoundVolume}
 use Rattle.bd_entry.specs.declared.entry.Entry.{Entry}
 use Rattle.bd_entry.specs.Actions.{has_begun, is_for_device, is_none_of}
-use Rattle.bd_entry.specs.Calls.{Place, is_ended_by}
+use Rattle.bd_entry.specs.Calls.{Place, is_ended_by, opened_fd}
 use Rattle.bd_entry.specs.Promises.{is_whole_refusal}
 use Rattle.bd_entry.specs.Store.{start_store}
 use Rattle.bd_entry.proofs.HistoryLaws.{is_call}
@@ -128,6 +128,8 @@ module _ (v : Volume) (script : Script) (sound : IsSoundVolume v) (limits : IsWi
       all = λ key d is attached. absurd (none-some d (sym (none_open_at_start v script key.process key.fd) ∙ is));
     };
     lookups = λ key right index is. no_right key right is;
+    whole = λ key right is. no_right key right is;
+    marked = λ key right swept is. no_right key right is;
     used = λ pair is. absurd (false≢true (sym (ap is_some (fin.get-empty pair_cmp pair)) ∙ is));
     tables = tables_new;
     hands = λ process p hand is in_hand. no_hand process hand in_hand;
@@ -143,12 +145,14 @@ module _ (v : Volume) (script : Script) (sound : IsSoundVolume v) (limits : IsWi
       by_running = λ number post is. absurd (none-some post is);
       state_of = λ number post is. absurd (none-some post is);
       drained = λ key right swept is. no_right key right is;
+      held = λ number post right is. absurd (none-some post is);
     };
     revoked = λ key right is. no_right key right is;
     one_unposted = λ first second a b is. no_right first a is;
     held_once = λ file first second is. absurd (false≢true (sym (ap (does_hold file) (new first)) ∙ is));
     holds = λ process file is. none_held process file is;
     begun_holding = λ process p is holds begun. absurd (begun (no_entry process p is));
+    opened = λ process fd p is opens some. absurd (none-some fd (sym (ap opened_fd (no_entry process p is)) ∙ some));
     allowed = λ process p is keeps begun.
         let fresh : has_begun (running_of m p) ≡ false =
         ap (λ (before : List Entry). not (is_none_of before && is_none_of (outstanding (progress_of m p.at.process)))) (no_entry process p is)
