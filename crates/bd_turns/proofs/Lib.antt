@@ -106,3 +106,4 @@ pub mod OtherTurns
 pub mod RightsLeft
 pub mod TurnBounds
 pub mod WithinAfterTurns
+pub mod BootWithin

@@ -8,6 +8,7 @@ use Rattle.bd_base.specs.declared.limits.TheConstants.{BLOCK_SIZE, DESCRIPTORS, 
 use Rattle.bd_base.specs.declared.script.Call.{Call}
 use Rattle.bd_base.specs.declared.script.Call.TheVariants.{Enter, Create, Read, Write, Truncate, Unlink, Size, Map, Close, RawRead, RawWrite}
 use Rattle.bd_base.specs.declared.script.How.TheVariants as hows
+use Rattle.bd_base.specs.declared.script.Script.{Script}
 use Rattle.bd_base.specs.declared.volume.Volume.{Volume}
 use Rattle.bd_base.specs.Files.{blocks_for}
 use Rattle.bd_entry.specs.Actions.{has_begun, is_untouched, piece_numbers}
@@ -20,7 +21,7 @@ use Rattle.bd_tables.specs.State.{Rights}
 use Rattle.bd_turns.specs.Added.{EntriesAreNext}
 use Rattle.bd_turns.specs.Processors.{is_posted, running_of}
 use Rattle.bd_turns.specs.Reached.{IsActor, IsReached}
-use Rattle.bd_turns.specs.State.{InHand, Phase, Looking, Reading, Filling, Moving, Missing, Retiring, Completing, Posted, Progress, State, progress_of, running}
+use Rattle.bd_turns.specs.State.{InHand, Phase, Looking, Reading, Filling, Moving, Missing, Retiring, Completing, Posted, Progress, State, boot_state, progress_of, running}
 use Rattle.bd_turns.specs.Turns.{LowersRest, after_turn, answer_of}
 
 -- ---- revocation
@@ -173,6 +174,10 @@ pub record AreWithinTurns (m : State) : Type 0 where
       (progress_of m process).used + turns_left m p ≤ most_turns
 
 -- ---- the laws
+
+-- a machine begins so
+abbrev pub BootIsWithinTurns : Type 0
+BootIsWithinTurns = (start : Store) (script : Script) → AreWithinTurns (boot_state start script)
 
 -- each turn of any actor keeps it so
 abbrev pub TurnsKeepWithin : Type 0

@@ -1,6 +1,6 @@
 //! The two laws of progress. Each is the contract of a function that does nothing.
 ghost use Rattle.bd_turns.specs.Progress.{NeverStuck};
-ghost use Rattle.bd_turns.specs.Rest.{RestFalls, TurnsKeepWithin};
+ghost use Rattle.bd_turns.specs.Rest.{BootIsWithinTurns, RestFalls, TurnsKeepWithin};
 
 /// As long as a call has not ended, some actor's turn has an effect.
 pub fn never_stuck()
@@ -15,4 +15,9 @@ pub fn rest_falls()
 /// No turn lets a call take more turns than any call takes at most.
 pub fn turns_keep_within()
     ensures { TurnsKeepWithin }
+{}
+
+/// A machine begins with no call that has taken a turn.
+pub fn boot_is_within_turns()
+    ensures { BootIsWithinTurns }
 {}
