@@ -1,22 +1,17 @@
 -- Which actor's turn has an effect, where a processor, a device engine or the invalidation engine has something to do.
-use Rattle.std.proofs.Common.{◌≡◌, ℕ, ◌+◌, ◌*◌, ◌-◌, ◌<◌, ◌≤◌, Bool, true, false, List, [], ◌∷◌, Option, None, Some, cond, refl, sym, ap, ◌∙◌, subst, arith, ⊎_elim}
-use Rattle.std.specs.Prelude.{length, nat_lt, slice_get}
+use Rattle.std.proofs.Common.{◌≡◌, ℕ, ◌+◌, ◌*◌, ◌-◌, ◌<◌, ◌≤◌, false, [], Option, Some, cond, refl, sym, ap, ◌∙◌, arith, ⊎_elim}
+use Rattle.std.specs.Prelude.{nat_lt, slice_get}
 use Rattle.std.specs.Option.{option_map, option_map_or, option_to_list}
 use Rattle.std.proofs.lemmas.Bool.{cond-false, cond-true, false_from_ne_true, lt-ltb, ltb-true}
 use Rattle.std.proofs.lemmas.Option.{none-some, slice_get_cases}
 use Rattle.bd_base.specs.declared.script.Process.{Process}
-use Rattle.bd_entry.specs.declared.entry.Entry.{Entry}
 use Rattle.bd_entry.specs.Calls.{Place}
-use Rattle.bd_tables.specs.State.{TableState}
 use Rattle.bd_turns.specs.declared.turn.Row.{Row}
-use Rattle.bd_turns.specs.declared.turn.Turn.{Turn}
 use Rattle.bd_turns.specs.declared.turn.Turn.TheVariants.{Did}
-use Rattle.bd_turns.specs.Engines as engines
 use Rattle.bd_turns.specs.Engines.{Invalidation, Step, engine_step, invalidation_of}
-use Rattle.bd_turns.specs.Processors as processors
 use Rattle.bd_turns.specs.Processors.{Action, next_action}
 use Rattle.bd_turns.specs.State.{State, place_of, running, running_at}
-use Rattle.bd_turns.specs.Turns.{Acting, Nothing, Outcome, SomeActorActs, after_step, answer_in, answer_of, engine_outcome, invalidation_outcome, outcome_of, outcome_of_action, outcome_of_invalidation, posting_place, process_count, processor_outcome}
+use Rattle.bd_turns.specs.Turns.{Acting, Nothing, Outcome, SomeActorActs, after_step, answer_in, engine_outcome, invalidation_outcome, outcome_of, outcome_of_action, outcome_of_invalidation, posting_place, process_count, processor_outcome}
 
 -- the outcome is an effective turn
 abbrev pub DoesAct : Outcome → Type 0

@@ -1,22 +1,20 @@
 -- Each right that is attached leaves its call one turn fewer.
-use Rattle.std.proofs.Common.{◌≡◌, ◌≢◌, ◌⊎◌, inl, inr, ℕ, zero, suc, ◌+◌, ◌-◌, ◌*◌, ◌<◌, ◌≤◌, Bool, true, false, not, ◌&&◌, ◌||◌, cond, List, [], ◌∷◌, ◌++◌, length, Option, None, Some, refl, sym, ap, ◌∙◌, subst, arith, ⊎_elim}
+use Rattle.std.proofs.Common.{◌≡◌, ℕ, zero, suc, ◌+◌, ◌<◌, ◌≤◌, Bool, true, false, not, cond, List, [], ◌∷◌, ◌++◌, length, Option, None, Some, refl, sym, ap, ◌∙◌, subst, arith, ⊎_elim}
 use Rattle.std.specs.Prelude.{All, nat_eq, nat_lt, slice_index}
-use Rattle.std.specs.Option.{option_map, option_map_or}
-use Rattle.std.specs.List.{list_any, range_with_len}
+use Rattle.std.specs.Option.{option_map}
+use Rattle.std.specs.List.{range_with_len}
 use Rattle.std.specs.List.Sorted.{IsStrictlyIncreasing}
-use Rattle.std.proofs.lemmas.Bool.{cond-false, cond-true, cases_Bool, false_from_ne_true, false≢true, or_left, or_parts}
-use Rattle.std.proofs.lemmas.Option.{none-some, same_Some}
+use Rattle.std.proofs.lemmas.Bool.{false≢true, or_parts}
 use Rattle.bd_base.specs.declared.journal.At.{At}
 use Rattle.bd_base.specs.declared.script.Call.{Call}
 use Rattle.bd_base.specs.declared.volume.Inode.{Inode}
-use Rattle.bd_base.specs.Files.{blocks_for, parts_for}
+use Rattle.bd_base.specs.Files.{blocks_for}
 use Rattle.bd_base.specs.Inodes.{blocks_of_slot}
 use Rattle.bd_entry.specs.declared.entry.Entry.{Entry}
 use Rattle.bd_entry.specs.declared.entry.Entry.TheVariants as entries
-use Rattle.bd_entry.specs.Calls.{at_of, fd_of_call, is_ended_by}
+use Rattle.bd_entry.specs.Calls.{fd_of_call, is_ended_by}
 use Rattle.bd_entry.specs.Effects as effects
 use Rattle.bd_entry.specs.Effects.{after_change, after_telling, effect_of, tells_size, with_known_size}
-use Rattle.bd_entry.specs.Rules.{place_in}
 use Rattle.bd_entry.specs.Store.{Descriptor, Store, Valid, blocks_in, descriptor_at, file_in, has_part, lowest_unattached, parts_in, with_part, work_of}
 use Rattle.bd_entry.proofs.DescriptorSteps.{after_call-cases, change-here}
 use Rattle.bd_entry.proofs.Slots.{some_of}

@@ -1,16 +1,13 @@
 -- A machine begins with no call that has taken a turn.
-use Rattle.std.proofs.Common.{◌≡◌, ℕ, zero, suc, Bool, true, false, not, ◌&&◌, List, [], ◌∷◌, map, None, Some, refl, sym, ap, ◌∙◌}
+use Rattle.std.proofs.Common.{◌≡◌, ℕ, zero, suc, false, not, ◌&&◌, List, [], ◌∷◌, map, refl, ap, ◌∙◌}
 use Rattle.std.specs.Prelude.{slice_index_or}
 use Rattle.std.proofs.lemmas.Bool.{both_ways}
 use Rattle.bd_base.specs.declared.script.Process.{Process}
-use Rattle.bd_base.specs.declared.script.Script.{Script}
 use Rattle.bd_entry.specs.declared.entry.Entry.{Entry}
 use Rattle.bd_entry.specs.Actions.{has_begun, is_none_of}
-use Rattle.bd_entry.specs.Calls.{Place}
-use Rattle.bd_entry.specs.Store.{Store}
 use Rattle.bd_turns.specs.Processors.{running_of}
 use Rattle.bd_turns.specs.Rest.{BootIsWithinTurns}
-use Rattle.bd_turns.specs.State.{Progress, State, boot_state, new_progress, outstanding, progress_of, running}
+use Rattle.bd_turns.specs.State.{Progress, State, boot_state, new_progress, outstanding, progress_of}
 use Rattle.bd_turns.proofs.CallsAfterTurns.{runs_at}
 
 all_new : (processes : List Process) (i : ℕ) → slice_index_or (map (λ (p : Process). new_progress) processes) i new_progress ≡ new_progress

@@ -1,12 +1,11 @@
 -- An engine with a command acts, and where no engine has one the invalidation engine acts for what is posted.
-use Rattle.std.proofs.Common.{◌≡◌, ◌≢◌, ◌⊎◌, inl, inr, ℕ, zero, suc, ◌+◌, ◌<◌, ◌≤◌, Bool, true, false, cond, List, [], ◌∷◌, ◌++◌, length, map, Option, None, Some, refl, sym, ap, ◌∙◌, subst, arith, get_or, append_assoc, ⊎_elim}
-use Rattle.std.specs.Prelude.{IsSome, count_by, is_some, nat_eq, slice_get, All, not}
-use Rattle.std.specs.Option.{option_and_then, option_map, option_map_or}
+use Rattle.std.proofs.Common.{◌≡◌, ℕ, ◌<◌, Bool, true, false, List, [], ◌∷◌, ◌++◌, length, map, Option, None, Some, refl, sym, ap, ◌∙◌, subst, arith, get_or, append_assoc}
+use Rattle.std.specs.Prelude.{All, not}
+use Rattle.std.specs.Option.{option_and_then, option_map}
 use Rattle.std.specs.FinMap as fin
-use Rattle.std.proofs.lemmas.Bool.{both_ways, cond-true, eq-eqb, false≢true}
+use Rattle.std.proofs.lemmas.Bool.{both_ways, false≢true}
 use Rattle.std.proofs.lemmas.List.Elements.{All-head, All-tail}
-use Rattle.std.proofs.lemmas.Option.{none-some, same_Some, slice_get-get_or}
-use Rattle.bd_base.specs.declared.journal.Found.{Found}
+use Rattle.std.proofs.lemmas.Option.{slice_get-get_or}
 use Rattle.bd_base.specs.declared.key.Key.{Key}
 use Rattle.bd_base.specs.declared.script.Call.{Call}
 use Rattle.bd_base.specs.declared.script.Call.TheVariants.{Read, Write, RawRead, RawWrite}
@@ -14,25 +13,22 @@ use Rattle.bd_base.specs.declared.volume.Volume.{Volume}
 use Rattle.bd_base.specs.Pieces.{Piece}
 use Rattle.bd_entry.specs.declared.entry.Entry.{Entry}
 use Rattle.bd_entry.specs.Actions.{is_none_of}
-use Rattle.bd_entry.specs.Calls.{Place, call_at, fd_of, fd_of_call, piece_of_call, pieces_of_call}
+use Rattle.bd_entry.specs.Calls.{Place, fd_of, fd_of_call, piece_of_call, pieces_of_call}
 use Rattle.bd_entry.specs.Store.{Descriptor, descriptor_at}
 use Rattle.bd_entry.proofs.NextActs.{map_from, then_from}
 use Rattle.bd_tables.specs.declared.request.Completion.{Completion}
 use Rattle.bd_tables.specs.declared.request.Request.{Request}
 use Rattle.bd_tables.specs.declared.state.Right.{Right}
-use Rattle.bd_tables.specs.declared.state.RightState.{RightState}
-use Rattle.bd_tables.specs.declared.state.RightState.TheVariants as states
-use Rattle.bd_tables.specs.declared.state.Walk.{Walk}
 use Rattle.bd_tables.specs.declared.state.Walk.TheVariants as walks
-use Rattle.bd_tables.specs.Sound.{Allows, IsSound, OnRight, granted_of}
-use Rattle.bd_tables.specs.State.{TableState, engines_in, found_of, is_in, told_of, walk_at}
+use Rattle.bd_tables.specs.Sound.{Allows, OnRight, granted_of}
+use Rattle.bd_tables.specs.State.{found_of, told_of, walk_at}
 use Rattle.bd_turns.specs.declared.turn.Row.TheVariants as rows
-use Rattle.bd_turns.specs.Engines.{Invalidation, Step, engine_step, engine_with, go_on, invalidate, invalidation_of, miss, move, notes, move_entry, move_entry_of, read_entry, look, fill, enter, request_for, request_of_piece, sweep_or_detach, take_command}
+use Rattle.bd_turns.specs.Engines.{engine_step, engine_with, go_on, miss, move, notes, move_entry, move_entry_of, read_entry, look, fill, enter, request_for, request_of_piece, take_command}
 use Rattle.bd_turns.specs.Reached.{IsReached}
-use Rattle.bd_turns.specs.Sound.{AreCommands, AreRightsOf, ArePosted, IsIdleWithout, IsPostedState, IsWalkAt, IsWalkFor, Sound}
-use Rattle.bd_turns.specs.State.{InHand, Phase, Looking, Reading, Filling, Moving, Missing, Retiring, Completing, Posted, Progress, Completed, State, outstanding, pieces_in_hand, place_of, progress_of, running, running_at}
-use Rattle.bd_turns.specs.Turns.{SomeActorActs, outcome_of_invalidation, posting_place}
-use Rattle.bd_turns.proofs.Acting.{DoesAct, engine_acts, invalidation_acts}
+use Rattle.bd_turns.specs.Sound.{AreCommands, IsWalkAt, IsWalkFor}
+use Rattle.bd_turns.specs.State.{InHand, Phase, Looking, Reading, Filling, Moving, Missing, Retiring, Completing, Progress, Completed, State, outstanding, pieces_in_hand, progress_of, running}
+use Rattle.bd_turns.specs.Turns.{SomeActorActs}
+use Rattle.bd_turns.proofs.Acting.{engine_acts}
 use Rattle.bd_turns.proofs.Cases.{running_process}
 
 -- there is something

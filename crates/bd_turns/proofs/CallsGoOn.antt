@@ -1,5 +1,5 @@
 -- A running call whose file nobody else holds goes on: its next action is there and has an effect.
-use Rattle.std.proofs.Common.{◌≡◌, ◌≢◌, ℕ, ◌<◌, Bool, true, false, not, ◌&&◌, cond, List, [], ◌∷◌, ◌++◌, length, Option, None, Some, refl, sym, ap, ◌∙◌, subst, arith, ⊎_elim}
+use Rattle.std.proofs.Common.{◌≡◌, ◌≢◌, ℕ, ◌<◌, Bool, true, false, not, ◌&&◌, cond, List, [], ◌∷◌, length, Option, None, Some, refl, sym, ap, ◌∙◌, arith, ⊎_elim}
 use Rattle.std.specs.Option.{option_or}
 use Rattle.std.specs.List.{list_any}
 use Rattle.std.proofs.lemmas.Bool.{both_ways, cases_Bool, false≢true}
@@ -9,12 +9,11 @@ use Rattle.bd_base.specs.declared.script.Call.TheVariants.{Enter, Create, Read, 
 use Rattle.bd_base.specs.declared.script.How.TheVariants as hows
 use Rattle.bd_base.specs.declared.script.Mode.{Mode}
 use Rattle.bd_base.specs.declared.journal.At.{At}
-use Rattle.bd_base.specs.Bounds.{Bounds}
 use Rattle.bd_entry.specs.declared.act.Act.{Act}
 use Rattle.bd_entry.specs.declared.entry.Entry.{Entry}
 use Rattle.bd_entry.specs.declared.entry.Entry.TheVariants as entries
-use Rattle.bd_entry.specs.Actions.{Holders, Running, before_beginning, busy, has_begun, is_none_of, kernel_part, next_act, own_act, submit_or_poll}
-use Rattle.bd_entry.specs.Calls.{Place, fd_of_call, is_end_of, is_made_by, opened_fd, pieces_of_call}
+use Rattle.bd_entry.specs.Actions.{Holders, Running, busy, has_begun, is_none_of, kernel_part, next_act, submit_or_poll}
+use Rattle.bd_entry.specs.Calls.{fd_of_call, is_end_of, is_made_by, opened_fd, pieces_of_call}
 use Rattle.bd_entry.specs.Laws.{AreOfCall}
 use Rattle.bd_entry.specs.NextEntries.{IsReadyPlace, running}
 use Rattle.bd_entry.specs.Refusals.{first_refusal, map_refusal}
@@ -22,7 +21,7 @@ use Rattle.bd_entry.specs.Store.{Store, descriptor_at}
 use Rattle.bd_entry.proofs.NextActs.{open_descriptor}
 use Rattle.bd_turns.specs.Sound.{keeps_allowed}
 use Rattle.bd_turns.proofs.BusyEngines.{There}
-use Rattle.bd_turns.proofs.NextActsThere.{HasOwn, IsDone, next_from_own, polls}
+use Rattle.bd_turns.proofs.NextActsThere.{HasOwn, IsDone, next_from_own}
 use Rattle.bd_turns.proofs.OpenDescriptors.{attaches}
 use Rattle.bd_turns.proofs.OwnActsThere.{close_there, create_there, direct_open_there, map_there, plain_open_there, removal_there, size_there, truncation_there}
 use Rattle.bd_turns.proofs.PiecesThere.{any_of_call, raw_read_there, raw_write_there, read_there, submitted, write_there}

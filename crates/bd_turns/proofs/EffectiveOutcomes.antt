@@ -1,5 +1,5 @@
 -- An effective turn is one of the kinds of effective turns.
-use Rattle.std.proofs.Common.{◌≡◌, ℕ, ◌*◌, ◌-◌, Bool, true, false, cond, List, Option, None, Some, refl}
+use Rattle.std.proofs.Common.{◌≡◌, ℕ, ◌*◌, ◌-◌, Bool, true, false, cond, Option, None, Some, refl}
 use Rattle.std.specs.Prelude.{nat_lt}
 use Rattle.std.specs.Option.{option_map_or, option_to_list}
 use Rattle.bd_entry.specs.Calls.{Place}

@@ -1,16 +1,12 @@
 -- Each turn in the name of a call on a file, without pieces, leaves it fewer turns.
-use Rattle.std.proofs.Common.{◌≡◌, ◌≢◌, ◌⊎◌, inl, inr, ℕ, zero, suc, ◌+◌, ◌-◌, ◌*◌, ◌/◌, ◌<◌, ◌≤◌, Bool, true, false, not, ◌&&◌, ◌||◌, cond, List, [], ◌∷◌, ◌++◌, length, Option, None, Some, refl, sym, ap, ◌∙◌, subst, arith, ⊎_elim}
-use Rattle.std.specs.Prelude.{nat_eq, nat_lt, slice_get}
-use Rattle.std.specs.Option.{option_and_then, option_map, option_map_or}
+use Rattle.std.proofs.Common.{◌≡◌, ◌≢◌, ℕ, ◌+◌, ◌-◌, ◌*◌, ◌/◌, ◌<◌, ◌≤◌, Bool, true, false, List, [], ◌∷◌, ◌++◌, length, Option, None, Some, refl, sym, ap, ◌∙◌, subst, arith}
+use Rattle.std.specs.Option.{option_and_then, option_map_or}
 use Rattle.std.specs.List.{list_any}
 use Rattle.std.specs.FinMap as fin
-use Rattle.std.proofs.lemmas.Bool.{both_ways, false≢true, or_left, or_parts}
-use Rattle.std.proofs.lemmas.List.{append-nil}
+use Rattle.std.proofs.lemmas.Bool.{both_ways, false≢true, or_parts}
 use Rattle.std.proofs.lemmas.List.FromFn.{length-map-range_with_len}
-use Rattle.std.proofs.lemmas.List.Folds.{list_any-append}
-use Rattle.std.proofs.lemmas.Option.{none-some, same_Some}
+use Rattle.std.proofs.lemmas.Option.{same_Some}
 use Rattle.bd_base.specs.declared.journal.At.{At}
-use Rattle.bd_base.specs.declared.key.Key.{Key}
 use Rattle.bd_base.specs.declared.limits.TheConstants.{BLOCK_SIZE}
 use Rattle.bd_base.specs.declared.script.Call.{Call}
 use Rattle.bd_base.specs.declared.script.Call.TheVariants.{Enter, Create, Read, Write, Truncate, Unlink, Size, Map, Close, RawRead, RawWrite}
@@ -20,7 +16,6 @@ use Rattle.bd_base.specs.declared.script.Mode.{Mode}
 use Rattle.bd_base.specs.declared.volume.Inode.{Inode}
 use Rattle.bd_base.specs.declared.volume.Volume.{Volume}
 use Rattle.bd_base.specs.Files.{blocks_for}
-use Rattle.bd_base.specs.Inodes.{blocks_of_slot}
 use Rattle.bd_base.specs.Pieces.{Piece, piece_at, pieces}
 use Rattle.bd_base.specs.Scripts.{IsCall}
 use Rattle.bd_entry.specs.declared.entry.Entry.{Entry}
@@ -31,12 +26,11 @@ use Rattle.bd_entry.specs.Refusals.{file_of, goal_of, goal_of_call, kernel_piece
 use Rattle.bd_entry.specs.Rules.{Once, RightBlock, RightFile, Rights, WithinLimit, place_in}
 use Rattle.bd_entry.specs.RulesOfCalls.{HasFieldsOf, IsFirstOfKind}
 use Rattle.bd_entry.specs.RulesOfContents.{NeedsNoLastBlock}
-use Rattle.bd_entry.specs.Store.{Descriptor, Store, blocks_in, descriptor_at, file_in, size_at, size_in, work_of}
+use Rattle.bd_entry.specs.Store.{Store, blocks_in, descriptor_at, file_in, size_at, size_in, work_of}
 use Rattle.bd_entry.proofs.Accesses.{of_call-in_store, work-is_of_call}
 use Rattle.bd_entry.proofs.CallEntries.{fd_of_call-append}
 use Rattle.bd_entry.proofs.EffectsOnFiles.{effect_of-files}
 use Rattle.bd_entry.proofs.HistoryLaws.{is_call}
-use Rattle.bd_entry.proofs.NextActs.{then_from}
 use Rattle.bd_tables.specs.declared.state.RightState.TheVariants as states
 use Rattle.bd_tables.specs.Effects as effects
 use Rattle.bd_tables.specs.State as tables
@@ -46,7 +40,7 @@ use Rattle.bd_turns.specs.Processors as processors
 use Rattle.bd_turns.specs.Processors.{next_action}
 use Rattle.bd_turns.specs.Reached.{IsReached}
 use Rattle.bd_turns.specs.Rest.{attach_turns, is_by, is_on_file, part_turns, revocation_turns, size_turns, turns_for}
-use Rattle.bd_turns.specs.State.{Progress, State, has_ended, outstanding, progress_of, running}
+use Rattle.bd_turns.specs.State.{Progress, State, has_ended, progress_of, running}
 use Rattle.bd_turns.specs.Turns.{after_adding, grown_tables, tables_after, with_hold}
 use Rattle.bd_turns.proofs.ActionsOfCalls.{no_commands}
 use Rattle.bd_turns.proofs.AddedEntries.{is_detach}
@@ -98,7 +92,8 @@ some_of_range off len some none =
 pub some_pieces : (call : Call) → IsCall call → has_pieces call ≡ true → pieces_of_call call ≢ []
 some_pieces (Read fd off len) within has none = some_of_range off len within.2 none
 some_pieces (Write fd off bytes) within has none = some_of_range off (length bytes) within.2.1 none
-some_pieces (RawRead address range) within has none = let empty : length (pieces_of_call (RawRead address range)) ≡ 0 = ap (λ (l : List Piece). length l) none in omega arith
+some_pieces (RawRead address range) within has none =
+    let empty : length (pieces_of_call (RawRead address range)) ≡ 0 = ap (λ (l : List Piece). length l) none in omega arith
 some_pieces (RawWrite address lo bytes) within has none =
     let empty : length (pieces_of_call (RawWrite address lo bytes)) ≡ 0 = ap (λ (l : List Piece). length l) none in omega arith
 some_pieces call within has none = false≢true has
@@ -299,7 +294,8 @@ module _ (v : Volume) (m : State) (reached : IsReached v m) (p : Place) (runs : 
         omega (arith, here, after_is)
 
     opened : (name : List ℕ) (mode : Mode) (at : At) (other fd : ℕ) (m2 : Mode) (how : How) → p.call ≡ Enter name mode hows.Direct →
-        e ≡ entries.Opened at other fd m2 how → attach_turns next.store p.at.process (opened_fd (p.before ++ e ∷ [])) + 1 ≤ attach_turns m.store p.at.process (opened_fd p.before)
+        e ≡ entries.Opened at other fd m2 how →
+        attach_turns next.store p.at.process (opened_fd (p.before ++ e ∷ [])) + 1 ≤ attach_turns m.store p.at.process (opened_fd p.before)
     opened name mode at other fd m2 how call is =
         let x : Entry = entries.Opened at other fd m2 how in
         let none : opened_fd p.before ≡ None = opened-none p.before (first_at x is) in
@@ -367,7 +363,8 @@ module _ (v : Volume) (m : State) (reached : IsReached v m) (p : Place) (runs : 
 
       of_call : (call : Call) → p.call ≡ call → (x : Entry) → e ≡ x → is_made_by call x ≡ true →
           turns_for next (after p (e ∷ [])) call (Some file) + 1 ≤ turns_for m p call (Some file)
-      of_call (Enter name mode hows.Plain) call_is (entries.Cleared at owner fd part) is made = of_clear (Enter name mode hows.Plain) call_is at owner fd part is
+      of_call (Enter name mode hows.Plain) call_is (entries.Cleared at owner fd part) is made =
+          of_clear (Enter name mode hows.Plain) call_is at owner fd part is
       of_call (Truncate number goal) call_is (entries.Cleared at owner fd part) is made = of_clear (Truncate number goal) call_is at owner fd part is
       of_call (Close number) call_is (entries.Cleared at owner fd part) is made = of_clear (Close number) call_is at owner fd part is
       of_call (Enter name mode hows.Plain) call_is (entries.Opened at other fd m2 how) is made =

@@ -1,6 +1,6 @@
 -- Each turn keeps each call within the turns that it may take.
-use Rattle.std.proofs.Common.{◌≡◌, ◌≢◌, ◌⊎◌, inl, inr, ℕ, zero, suc, ◌+◌, ◌<◌, ◌≤◌, Bool, true, false, not, ◌&&◌, ◌||◌, List, [], ◌∷◌, ◌++◌, length, map, Option, None, Some, refl, sym, ap, ◌∙◌, subst, arith, ⊎_elim}
-use Rattle.std.specs.Prelude.{All, drop, nat_eq, slice_get}
+use Rattle.std.proofs.Common.{◌≡◌, ◌≢◌, ℕ, ◌+◌, ◌<◌, ◌≤◌, true, false, not, ◌&&◌, ◌||◌, List, [], ◌∷◌, ◌++◌, length, map, Option, None, Some, refl, sym, ap, ◌∙◌, subst, arith, ⊎_elim}
+use Rattle.std.specs.Prelude.{All, drop, slice_get}
 use Rattle.std.specs.Option.{option_to_list}
 use Rattle.std.specs.List.{list_any}
 use Rattle.std.specs.FinMap as fin
@@ -11,9 +11,8 @@ use Rattle.std.proofs.lemmas.Option.{none-some, same_Some}
 use Rattle.bd_base.specs.declared.journal.At.{At}
 use Rattle.bd_base.specs.declared.key.Key.{Key}
 use Rattle.bd_base.specs.declared.script.Call.{Call}
-use Rattle.bd_base.specs.declared.script.Call.TheVariants.{Enter, Create, Read, Write, Truncate, Unlink, Size, Map, Close, RawRead, RawWrite}
+use Rattle.bd_base.specs.declared.script.Call.TheVariants.{Create, Read, Write, Size, RawRead, RawWrite}
 use Rattle.bd_base.specs.declared.volume.Volume.{Volume}
-use Rattle.bd_base.specs.Scripts.{IsCall}
 use Rattle.bd_entry.specs.declared.entry.Entry.{Entry}
 use Rattle.bd_entry.specs.declared.entry.Entry.TheVariants as entries
 use Rattle.bd_entry.specs.Actions.{has_begun, is_none_of, keys_to_revoke}
@@ -341,8 +340,8 @@ module _ (v : Volume) (m : State) (reached : IsReached v m) (within : AreWithinT
         own = λ goes.
             own_file v m next p None before_turn reached within t (without_pieces rev.through) rev.through rev.file rev.of rev.held
             (revoking_falls m next p [] rev.file rev.made.0 rev.made.1 rev.made.2 rev.made.3 rev.made.4
-            (own.changing_falls v m next p reached runs (is_on_file (Some rev.file)) (λ key right state. refl) (own.on_file-passes m p rev.file rev.of) row tables
-            place acting refl refl)
+            (own.changing_falls v m next p reached runs (is_on_file (Some rev.file)) (λ key right state. refl) (own.on_file-passes m p rev.file rev.of) row
+            tables place acting refl refl)
             (λ number call.
             own.changing_falls v m next p reached runs (is_by p.at.process number) (λ key right state. refl) (own.by-passes m p number call) row tables place
             acting refl refl)

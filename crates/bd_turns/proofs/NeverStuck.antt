@@ -1,34 +1,31 @@
 -- Some actor acts as long as a call has not ended.
-use Rattle.std.proofs.Common.{◌≡◌, ◌≢◌, ◌⊎◌, inl, inr, ℕ, zero, suc, ◌+◌, ◌<◌, ◌≤◌, Bool, true, false, not, ◌&&◌, ◌||◌, cond, List, [], ◌∷◌, ◌++◌, length, map, Option, None, Some, refl, sym, ap, ◌∙◌, subst, arith, get_or, ⊎_elim}
-use Rattle.std.specs.Prelude.{All, is_some, nat_eq, nat_lt, position, slice_get}
+use Rattle.std.proofs.Common.{◌≡◌, ◌≢◌, ◌⊎◌, inl, inr, ℕ, ◌<◌, ◌≤◌, Bool, true, false, not, ◌&&◌, ◌||◌, cond, List, [], ◌∷◌, ◌++◌, length, map, Option, None, Some, refl, sym, ap, ◌∙◌, subst, arith, ⊎_elim}
+use Rattle.std.specs.Prelude.{All, is_some, nat_eq, nat_lt}
 use Rattle.std.specs.Option.{option_and_then, option_map, option_map_or}
-use Rattle.std.specs.List.{find, list_all, list_any, range_with_len}
+use Rattle.std.specs.List.{find, list_any, range_with_len}
 use Rattle.std.specs.FinMap as fin
 use Rattle.std.proofs.Math.ListN.{get_or-eq_default}
-use Rattle.std.proofs.lemmas.Bool.{and_cases, or_cases, both_ways, cases_Bool, cases_eq, cases_lt, cond-true, eq-eqb, eqb-true, false≢true, true_from_ne_false}
-use Rattle.std.proofs.lemmas.List.{append-nil}
+use Rattle.std.proofs.lemmas.Bool.{and_cases, or_cases, both_ways, cases_Bool, cases_lt, cond-true, eq-eqb, false≢true}
 use Rattle.std.proofs.lemmas.List.Elements.{All-head}
 use Rattle.std.proofs.lemmas.List.Quantifiers.{position-Some}
 use Rattle.std.proofs.lemmas.Option.{none-some, same_Some, slice_get_cases, slice_get_within}
-use Rattle.bd_base.specs.declared.journal.At.{At}
 use Rattle.bd_base.specs.declared.key.Key.{Key}
 use Rattle.bd_base.specs.declared.limits.TheConstants.{POSTS}
 use Rattle.bd_base.specs.declared.script.Call.{Call}
-use Rattle.bd_base.specs.declared.script.Call.TheVariants.{Read, Write, RawRead, RawWrite, Enter, Unlink}
+use Rattle.bd_base.specs.declared.script.Call.TheVariants.{Enter, Unlink}
 use Rattle.bd_base.specs.declared.script.How.TheVariants as hows
 use Rattle.bd_base.specs.declared.volume.Volume.{Volume}
-use Rattle.bd_base.specs.Keys.{same_key}
 use Rattle.bd_base.proofs.Ranges.{find-range_fails, find-range_lowest}
 use Rattle.bd_entry.specs.declared.act.Act.{Act}
 use Rattle.bd_entry.specs.declared.act.Act.TheVariants as acts
 use Rattle.bd_entry.specs.declared.entry.Entry.{Entry}
-use Rattle.bd_entry.specs.Actions.{Holders, Running, busy, entry_of_act, has_begun, is_none_of, next_act, wait_for}
-use Rattle.bd_entry.specs.Calls.{Place, call_at, calls_of, entries_of, fd_of_call, is_ended_by, is_finished, pieces_of_call}
+use Rattle.bd_entry.specs.Actions.{busy, entry_of_act, has_begun, is_none_of, next_act, wait_for}
+use Rattle.bd_entry.specs.Calls.{Place, call_at, calls_of, fd_of_call, is_ended_by, pieces_of_call}
 use Rattle.bd_entry.specs.NextEntries.{IsReadyPlace, goes_by_name}
 use Rattle.bd_entry.specs.NextEntries.{running as next_running}
 use Rattle.bd_entry.specs.Refusals.{file_of, first_refusal}
 use Rattle.bd_entry.specs.RulesOfCalls.{IsNextCall}
-use Rattle.bd_entry.specs.Store.{Store, descriptor_at, work_of}
+use Rattle.bd_entry.specs.Store.{work_of}
 use Rattle.bd_entry.proofs.CallOrder.{is_finished-called}
 use Rattle.bd_entry.proofs.HistoryLaws.{work_is_of_running_call}
 use Rattle.bd_entry.proofs.NextActs.{map_from}
@@ -42,14 +39,13 @@ use Rattle.bd_turns.specs.Processors.{Action, action_for, add_entry, clear, is_o
 use Rattle.bd_turns.specs.Progress.{NeverStuck}
 use Rattle.bd_turns.specs.Reached.{IsReached}
 use Rattle.bd_turns.specs.Sound.{keeps_allowed}
-use Rattle.bd_turns.specs.State.{Completed, Posted, Progress, State, does_hold, has_ended, holder_of, new_progress, outstanding, pieces_in_hand, place_of, progress_of, running, running_at}
+use Rattle.bd_turns.specs.State.{Completed, Posted, Progress, State, does_hold, holder_of, new_progress, outstanding, pieces_in_hand, place_of, progress_of, running, running_at}
 use Rattle.bd_turns.specs.Turns.{SomeActorActs, all_ended, outcome_of_action, process_count}
 use Rattle.bd_turns.proofs.Acting.{DoesAct, processor_acts}
 use Rattle.bd_turns.proofs.BusyEngines.{There, commands_act, has_command}
 use Rattle.bd_turns.proofs.CallsGoOn.{MayGoOn, next_there, with_commands}
-use Rattle.bd_turns.proofs.Cases.{running_process}
 use Rattle.bd_turns.proofs.NextActsThere.{IsDoable, IsDone, adds, polls, revokes, submits}
-use Rattle.bd_turns.proofs.OpenDescriptors.{attaches, descriptors_are_open}
+use Rattle.bd_turns.proofs.OpenDescriptors.{descriptors_are_open}
 use Rattle.bd_turns.proofs.OwnActsThere.{not_false}
 use Rattle.bd_turns.proofs.PiecesThere.{not_all}
 use Rattle.bd_turns.proofs.PostedRights.{IsQuiet, posted_acts}
@@ -108,14 +104,13 @@ polls_on m p progress quiet some = by progress.completed refl
         let left : is_none_of (pieces_in_hand progress.hand ++ progress.submitted) ≡ false =
         ap (λ (l : List Completed). is_none_of (map (λ (c : Completed). c.piece) l ++ pieces_in_hand progress.hand ++ progress.submitted)) (sym is) ∙ some in
         absurd (false≢true (sym quiet ∙ ap not left))
-    by (c ∷ done) is =
-        (
-          processors.Polls,
-          ap
+    by (c ∷ done) is = (
+      processors.Polls,
+      ap
           (λ (l : List Completed). cond (is_none_of l) (processors.WaitsFor (waits.Completion (least_outstanding (outstanding progress)))) processors.Polls)
           is,
-          (rows.Poll, refl),
-        )
+      (rows.Poll, refl),
+    )
 
 -- an action with an effect is no wait
 acts_on : (m : State) (p : Place) (act : Act) → m.posted ≡ [] → has_command (progress_of m p.at.process) ≡ false → IsDoable m.store (running_of m p) act →

@@ -1,35 +1,17 @@
 -- A running call that waits for nobody has a next action, and that has an effect.
-use Rattle.std.proofs.Common.{◌≡◌, ◌≢◌, ◌⊎◌, inl, inr, ℕ, zero, suc, ◌+◌, ◌-◌, ◌<◌, ◌≤◌, Bool, true, false, not, ◌&&◌, ◌||◌, cond, List, [], ◌∷◌, ◌++◌, length, Option, None, Some, refl, sym, ap, ◌∙◌, subst, arith, get_or, ⊎_elim}
-use Rattle.std.specs.Prelude.{is_some, nat_eq, nat_lt, slice_get}
-use Rattle.std.specs.Option.{option_and_then, option_map, option_map_or, option_or}
-use Rattle.std.specs.List.{find, list_all, list_any, range_with_len}
-use Rattle.std.proofs.lemmas.Bool.{and_parts, both_ways, cond-false, cond-true, false≢true, ltb-true}
-use Rattle.std.proofs.lemmas.Option.{none-some, slice_get-get_or}
+use Rattle.std.proofs.Common.{◌≡◌, ℕ, Bool, true, false, cond, List, [], ◌∷◌, Option, None, Some, refl, sym, ap, ◌∙◌}
+use Rattle.std.specs.Option.{option_or}
+use Rattle.std.proofs.lemmas.Bool.{false≢true}
 use Rattle.bd_base.specs.declared.key.Key.{Key}
 use Rattle.bd_base.specs.declared.reason.Reason.{Reason}
-use Rattle.bd_base.specs.declared.reason.Reason.TheVariants as reasons
-use Rattle.bd_base.specs.declared.script.Call.{Call}
-use Rattle.bd_base.specs.declared.script.Call.TheVariants.{Enter, Create, Read, Write, Truncate, Unlink, Size, Map, Close, RawRead, RawWrite}
-use Rattle.bd_base.specs.declared.script.How.{How}
-use Rattle.bd_base.specs.declared.script.How.TheVariants as hows
-use Rattle.bd_base.specs.declared.script.Mode.{Mode}
-use Rattle.bd_base.specs.declared.volume.Inode.{Inode}
-use Rattle.bd_base.specs.declared.journal.At.{At}
-use Rattle.bd_base.specs.Files.{blocks_for}
-use Rattle.bd_base.specs.Inodes.{free_id, growth_block, id_of}
 use Rattle.bd_entry.specs.declared.act.Act.{Act}
 use Rattle.bd_entry.specs.declared.act.Act.TheVariants as acts
 use Rattle.bd_entry.specs.declared.entry.Entry.{Entry}
 use Rattle.bd_entry.specs.declared.entry.Entry.TheVariants as entries
-use Rattle.bd_entry.specs.Actions.{Holders, Running, attach_by, attach_or_map, before_beginning, busy, busy_at_first, comes_before_holder, entry_of_act, has_begun, is_none_of, is_to_shrink, keys_to_revoke, next_act, open_file, own_act, remove_file, released_entry, revoke, tests_for_holder, truncate_to}
-use Rattle.bd_entry.specs.Calls.{Place, fd_of}
-use Rattle.bd_entry.specs.NextEntries.{running}
-use Rattle.bd_entry.specs.Refusals.{denial, file_of, first_refusal, growth_reason_of, next_size, reason_if, truncate_refusal}
-use Rattle.bd_entry.specs.Store.{Descriptor, Store, Valid, blocks_in, descriptor_at, file_in, lowest_fd, next_part, size_in}
-use Rattle.bd_entry.proofs.NextActs.{map_or_from, open_descriptor, or_none}
-use Rattle.bd_entry.proofs.NextFiles.{cond_from, reason_if-none}
-use Rattle.bd_entry.proofs.Slots.{some_of}
-use Rattle.bd_turns.proofs.BusyEngines.{There, there_map}
+use Rattle.bd_entry.specs.Actions.{Holders, Running, before_beginning, busy, busy_at_first, comes_before_holder, entry_of_act, has_begun, is_none_of, keys_to_revoke, next_act, own_act, revoke, tests_for_holder}
+use Rattle.bd_entry.specs.Calls.{Place}
+use Rattle.bd_entry.specs.Refusals.{first_refusal}
+use Rattle.bd_entry.specs.Store.{Store}
 
 -- ---- actions with an effect
 
@@ -68,7 +50,8 @@ module _ (s : Store) (holders : Holders) (r : Running) (free : busy s holders r.
       refused : Option Act
       refused = Some (acts.Refuse None reason)
 
-      by : (b : Bool) → cond b (Some (acts.Refuse None reason)) (option_or (busy_at_first s holders p) (Some (acts.Refuse None reason))) ≡ Some (acts.Refuse None reason)
+      by : (b : Bool) → cond b (Some (acts.Refuse None reason)) (option_or (busy_at_first s holders p) (Some (acts.Refuse None reason)))
+          ≡ Some (acts.Refuse None reason)
       by true = refl
       by false = ap (λ (o : Option Act). option_or o (Some (acts.Refuse None reason))) free_at_first
 
@@ -96,7 +79,7 @@ module _ (s : Store) (holders : Holders) (r : Running) (free : busy s holders r.
       by false begun (Some reason) is = (
         acts.Refuse None reason,
         ap
-        (λ (o : Option Act). option_or o (option_or (revoke (keys_to_revoke s p p.call)) (own_act s holders r p.call)))
-        (refuses reason),
+            (λ (o : Option Act). option_or o (option_or (revoke (keys_to_revoke s p p.call)) (own_act s holders r p.call)))
+            (refuses reason),
         adds (acts.Refuse None reason) (entries.Refused p.at None reason) refl,
       )

@@ -1,9 +1,8 @@
 -- A direct open or a map that goes on has its descriptor open.
-use Rattle.std.proofs.Common.{◌≡◌, ◌≢◌, ◌⊎◌, inl, inr, ℕ, zero, suc, ◌<◌, Bool, true, false, List, [], ◌∷◌, ◌++◌, length, Option, None, Some, refl, sym, ap, ◌∙◌, subst, arith, ⊎_elim}
+use Rattle.std.proofs.Common.{◌≡◌, ◌≢◌, ℕ, zero, suc, ◌<◌, Bool, true, false, List, [], ◌∷◌, ◌++◌, length, Option, None, Some, refl, sym, ap, ◌∙◌, subst, arith, ⊎_elim}
 use Rattle.std.specs.Prelude.{IsSome, slice_index_or, slice_set}
-use Rattle.std.specs.Option.{option_map}
 use Rattle.std.specs.List.{list_any}
-use Rattle.std.proofs.lemmas.Bool.{both_ways, false_from_ne_true, false≢true, or_parts}
+use Rattle.std.proofs.lemmas.Bool.{both_ways, false≢true, or_parts}
 use Rattle.std.proofs.lemmas.List.{get_or-set_same}
 use Rattle.std.proofs.lemmas.List.Folds.{list_any-append}
 use Rattle.std.proofs.lemmas.List.Quantifiers.{position-Some}
@@ -16,11 +15,10 @@ use Rattle.bd_base.specs.declared.volume.Volume.{Volume}
 use Rattle.bd_base.specs.declared.journal.At.{At}
 use Rattle.bd_entry.specs.declared.entry.Entry.{Entry}
 use Rattle.bd_entry.specs.declared.entry.Entry.TheVariants as entries
-use Rattle.bd_entry.specs.Calls.{Place, at_of, call_at, fd_of_call, is_end_of, is_ended_by, is_made_by, is_opened, opened_fd}
+use Rattle.bd_entry.specs.Calls.{at_of, call_at, fd_of_call, is_end_of, is_ended_by, is_opened, opened_fd}
 use Rattle.bd_entry.specs.Effects.{after_change, after_telling, effect_of, tells_size, with_known_size, with_told_size}
 use Rattle.bd_entry.specs.Laws.{IsHistory, IsNextOf}
-use Rattle.bd_entry.specs.Refusals.{first_refusal}
-use Rattle.bd_entry.specs.Rules.{IsOpen, NextCall, NotRefused, Once, place_in}
+use Rattle.bd_entry.specs.Rules.{IsOpen, Once, place_in}
 use Rattle.bd_entry.specs.RulesOfCalls.{IsFirstOfKind, IsNextCall, IsOfCall}
 use Rattle.bd_entry.specs.RulesOfRights.{HasRightDescriptor, TheDescriptor}
 use Rattle.bd_entry.specs.Store.{Descriptor, Store, descriptor_at, in_slot, is_empty_slot, lowest_fd, slots_of, with_slot, work_of}
@@ -80,7 +78,7 @@ opens s process fd d lowest =
     let row = slice_set (slots_of s process) fd (Some d) in (
       d,
       ap (λ (slots : List (Option Descriptor)). in_slot slots fd) (get_or-set_same s.opens process row [] there)
-      ∙ get_or-set_same (slots_of s process) fd (Some d) None within,
+          ∙ get_or-set_same (slots_of s process) fd (Some d) None within,
       tt,
     )
   where

@@ -1,10 +1,9 @@
 -- No turn in the name of one call leaves another call more turns.
-use Rattle.std.proofs.Common.{◌≡◌, ◌≢◌, ◌⊎◌, inl, inr, ℕ, zero, suc, ◌+◌, ◌-◌, ◌*◌, ◌<◌, ◌≤◌, Bool, true, false, not, ◌&&◌, ◌||◌, cond, List, [], ◌∷◌, ◌++◌, length, Option, None, Some, refl, sym, ap, ◌∙◌, subst, arith, ⊎_elim}
+use Rattle.std.proofs.Common.{◌≡◌, ◌≢◌, ℕ, ◌+◌, ◌*◌, ◌≤◌, Bool, true, false, List, [], ◌∷◌, ◌++◌, length, Option, None, Some, refl, sym, ap, ◌∙◌, subst, arith, ⊎_elim}
 use Rattle.std.specs.Prelude.{count_by, nat_eq, slice_index_or}
-use Rattle.std.specs.Option.{option_and_then, option_map, option_map_or, option_to_list}
-use Rattle.std.specs.FinMap as fin
-use Rattle.std.proofs.lemmas.Bool.{and_left, both_ways, cases_Bool, false≢true, ne_eqb}
-use Rattle.std.proofs.lemmas.Option.{none-some, same_Some}
+use Rattle.std.specs.Option.{option_and_then, option_map, option_map_or}
+use Rattle.std.proofs.lemmas.Bool.{and_left, both_ways, false≢true, ne_eqb}
+use Rattle.std.proofs.lemmas.Option.{same_Some}
 use Rattle.bd_base.specs.declared.journal.At.{At}
 use Rattle.bd_base.specs.declared.key.Key.{Key}
 use Rattle.bd_base.specs.declared.script.Call.{Call}
@@ -27,7 +26,6 @@ use Rattle.bd_entry.proofs.EffectsOnFiles.{effect_of-files}
 use Rattle.bd_entry.proofs.NextActs.{map_from, then_from}
 use Rattle.bd_entry.proofs.Slots.{some_of}
 use Rattle.bd_tables.specs.declared.state.Right.{Right}
-use Rattle.bd_tables.specs.State as tables
 use Rattle.bd_tables.specs.Effects as changes
 use Rattle.bd_turns.specs.Processors.{running_of}
 use Rattle.bd_turns.specs.Reached.{IsReached}
@@ -183,7 +181,8 @@ module _ (v : Volume) (m next : State) (p : Place) (entry : Option Entry) (g : P
               (λ same. differ (t.alone (entries.Attached at fd part) is refl file q (of ∙ ap Some same) holds))
 
   -- nor do those of a descriptor of the process
-  by_not : (fd : ℕ) → revocation_turns next.tables.rights next.posted (is_by x.at.process fd) ≤ revocation_turns m.tables.rights m.posted (is_by x.at.process fd)
+  by_not : (fd : ℕ) →
+      revocation_turns next.tables.rights next.posted (is_by x.at.process fd) ≤ revocation_turns m.tables.rights m.posted (is_by x.at.process fd)
   by_not fd =
       revocation_rises_not m.tables.rights next.tables.rights m.posted next.posted (is_by x.at.process fd)
       (leaves.rise_not (is_by x.at.process fd) (λ key right state. refl)
@@ -334,4 +333,5 @@ module _ (v : Volume) (m next : State) (p : Place) (entry : Option Entry) (g : P
   pub others_not : has_begun (running_of m x) ≡ true → turns_left next x ≤ turns_left m x
   others_not begun =
       subst (λ (h : Option ℕ). turns_for next x x.call h ≤ turns_left m x) (ap (λ (g : Progress). g.held) (sym same_progress))
-      (subst (λ (n : ℕ). turns_for next x x.call (progress_of m n).held ≤ turns_for m x x.call (progress_of m n).held) (sym (runs_of m q x runs)) (for_not begun))
+      (subst (λ (n : ℕ). turns_for next x x.call (progress_of m n).held ≤ turns_for m x x.call (progress_of m n).held)
+      (sym (runs_of m q x runs)) (for_not begun))

@@ -1,8 +1,8 @@
 -- The own action of a call that is allowed is there: opens, maps, creates, truncations, removals, sizes and closes.
-use Rattle.std.proofs.Common.{◌≡◌, ◌≢◌, ◌⊎◌, inl, inr, ℕ, zero, suc, ◌+◌, ◌-◌, ◌<◌, ◌≤◌, Bool, true, false, not, cond, List, [], ◌∷◌, length, Option, None, Some, refl, sym, ap, ◌∙◌, subst, arith, get_or, ⊎_elim}
-use Rattle.std.specs.Prelude.{is_some, nat_lt, slice_get}
+use Rattle.std.proofs.Common.{◌≡◌, ℕ, suc, ◌-◌, ◌<◌, Bool, true, false, not, cond, List, [], ◌∷◌, length, Option, None, Some, refl, sym, ap, ◌∙◌, arith, get_or, ⊎_elim}
+use Rattle.std.specs.Prelude.{is_some, nat_lt}
 use Rattle.std.specs.Option.{option_and_then, option_map, option_map_or, option_or}
-use Rattle.std.proofs.lemmas.Bool.{and_parts, both_ways, false≢true, ltb-true}
+use Rattle.std.proofs.lemmas.Bool.{and_parts, false≢true, ltb-true}
 use Rattle.std.proofs.lemmas.Option.{none-some, slice_get-get_or}
 use Rattle.bd_base.specs.declared.reason.Reason.{Reason}
 use Rattle.bd_base.specs.declared.reason.Reason.TheVariants as reasons
@@ -19,15 +19,15 @@ use Rattle.bd_entry.specs.declared.act.Act.{Act}
 use Rattle.bd_entry.specs.declared.act.Act.TheVariants as acts
 use Rattle.bd_entry.specs.declared.entry.Entry.{Entry}
 use Rattle.bd_entry.specs.declared.entry.Entry.TheVariants as entries
-use Rattle.bd_entry.specs.Actions.{Holders, Running, attach_by, attach_or_map, entry_of_act, is_none_of, is_to_shrink, opened_entry, open_file, own_act, remove_file, released_entry, truncate_to}
-use Rattle.bd_entry.specs.Calls.{Place, fd_of, fd_of_call}
+use Rattle.bd_entry.specs.Actions.{Holders, Running, attach_by, attach_or_map, is_none_of, is_to_shrink, opened_entry, open_file, remove_file, truncate_to}
+use Rattle.bd_entry.specs.Calls.{fd_of, fd_of_call}
 use Rattle.bd_entry.specs.NextEntries.{running}
 use Rattle.bd_entry.specs.Refusals.{denial, file_of, first_refusal, growth_reason_of, next_size, reason_if, truncate_refusal, unlink_denial_of}
 use Rattle.bd_entry.specs.Store.{Descriptor, Holder, Store, Valid, blocks_in, descriptor_at, file_in, first_open, lowest_fd, next_part, size_in}
 use Rattle.bd_entry.proofs.NextActs.{map_or_from, open_descriptor, or_none}
 use Rattle.bd_entry.proofs.NextFiles.{cond_from, reason_if-none}
 use Rattle.bd_entry.proofs.Slots.{some_of}
-use Rattle.bd_turns.proofs.BusyEngines.{There, there_map}
+use Rattle.bd_turns.proofs.BusyEngines.{There}
 use Rattle.bd_turns.proofs.NextActsThere.{HasOwn, IsDoable, adds, IsDone}
 
 pub not_false : (b : Bool) → not b ≡ false → b ≡ true
@@ -53,7 +53,7 @@ open_there s r name mode how is allowed =
       acts.Opened found.0 fd.0,
       ap open_by of ∙ ap (option_map (acts.Opened found.0)) fd.1,
       adds (acts.Opened found.0 fd.0) (entries.Opened r.place.at found.0 fd.0 mode how)
-      (ap (λ (c : Call). opened_entry r.place c found.0 fd.0) is),
+          (ap (λ (c : Call). opened_entry r.place c found.0 fd.0) is),
     ))
     (λ none. absurd (none-some reasons.NoFile (sym none.1)))
     (map_or_from why (id_of name s.files) (Some reasons.NoFile) None allowed)
@@ -153,7 +153,8 @@ module _ (s : Store) (holders : Holders) (at : At) (before : List Entry) (outsta
       let r = running (Truncate fd size) at before outstanding in IsDoable s r (truncate_to s r.place size d.file)
   truncation_act fd size d valid is = shrinks (is_to_shrink s d.file size) refl
     where
-      grow : (to : ℕ) (o : Option Reason) → IsDoable s (running (Truncate fd size) at before outstanding) (option_map_or (acts.Refuse None) o (acts.Extend d.file to))
+      grow : (to : ℕ) (o : Option Reason) →
+          IsDoable s (running (Truncate fd size) at before outstanding) (option_map_or (acts.Refuse None) o (acts.Extend d.file to))
       grow to None =
           let f = some_of (file_in s d.file) (valid.descriptors at.process fd d is).of_file in
           let entry : Inode → Entry = λ f. entries.Extended at d.file to (growth_block s.total s.files f) in
@@ -162,14 +163,16 @@ module _ (s : Store) (holders : Holders) (at : At) (before : List Entry) (outsta
 
       grows : (o : Option ℕ) →
           IsDoable s (running (Truncate fd size) at before outstanding)
-          (option_map_or (λ to. option_map_or (acts.Refuse None) (growth_reason_of s (running (Truncate fd size) at before outstanding).place size) (acts.Extend d.file to)) o (acts.Sized size))
+          (option_map_or (λ to. option_map_or (acts.Refuse None) (growth_reason_of s (running (Truncate fd size) at before outstanding).place size) (acts.Extend d.file to))
+          o (acts.Sized size))
       grows None = adds (acts.Sized size) (entries.Sized at fd size) refl
       grows (Some to) = grow to (growth_reason_of s (running (Truncate fd size) at before outstanding).place size)
 
       shrinks : (b : Bool) → is_to_shrink s d.file size ≡ b →
           IsDoable s (running (Truncate fd size) at before outstanding)
           (cond b (acts.Release d.file)
-          (option_map_or (λ to. option_map_or (acts.Refuse None) (growth_reason_of s (running (Truncate fd size) at before outstanding).place size) (acts.Extend d.file to)) (next_size (size_in s d.file) size) (acts.Sized size)))
+          (option_map_or (λ to. option_map_or (acts.Refuse None) (growth_reason_of s (running (Truncate fd size) at before outstanding).place size) (acts.Extend d.file to))
+          (next_size (size_in s d.file) size) (acts.Sized size)))
       shrinks true is =
           let parts = and_parts (nat_lt size (size_in s d.file)) (nat_lt (blocks_for size) (length (blocks_in s d.file))) is in
           let more : blocks_for size < length (blocks_in s d.file) = ltb-true (blocks_for size) (length (blocks_in s d.file)) parts.1 in

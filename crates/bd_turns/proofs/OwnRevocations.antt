@@ -1,10 +1,9 @@
 -- Each turn of a revocation leaves its call fewer turns.
-use Rattle.std.proofs.Common.{◌≡◌, ◌≢◌, ℕ, ◌+◌, ◌<◌, ◌≤◌, Bool, true, false, not, ◌||◌, cond, List, [], ◌∷◌, ◌++◌, length, Option, None, Some, refl, sym, ap, ◌∙◌, subst, arith, ⊎_elim}
+use Rattle.std.proofs.Common.{◌≡◌, ◌≢◌, ℕ, ◌+◌, ◌≤◌, Bool, true, false, not, ◌||◌, cond, List, [], ◌∷◌, ◌++◌, Option, None, Some, refl, sym, ap, ◌∙◌, subst, arith}
 use Rattle.std.specs.Prelude.{drop, nat_eq, position, slice_get}
 use Rattle.std.specs.Option.{option_map_or}
-use Rattle.std.specs.List.{find}
 use Rattle.std.specs.FinMap as fin
-use Rattle.std.proofs.lemmas.Bool.{and_from, and_parts, both_ways, cases_Bool, eq-eqb, false_from_ne_true, false≢true, or_left, or_parts}
+use Rattle.std.proofs.lemmas.Bool.{and_from, both_ways, eq-eqb, false≢true, or_left, or_parts}
 use Rattle.std.proofs.lemmas.Option.{none-some, same_Some}
 use Rattle.bd_base.specs.declared.journal.At.{At}
 use Rattle.bd_base.specs.declared.key.Key.{Key}
@@ -15,12 +14,12 @@ use Rattle.bd_base.specs.Keys.{key_cmp_total, same_key}
 use Rattle.bd_entry.specs.declared.entry.Entry.{Entry}
 use Rattle.bd_entry.specs.declared.entry.Entry.TheVariants as entries
 use Rattle.bd_entry.specs.Actions.{keys_to_revoke}
-use Rattle.bd_entry.specs.Calls.{Place, at_of}
+use Rattle.bd_entry.specs.Calls.{Place}
 use Rattle.bd_entry.specs.Refusals.{file_of}
 use Rattle.bd_entry.specs.Rules.{RightFile, Rights, place_in}
 use Rattle.bd_entry.specs.RulesOfCalls.{MayClear}
 use Rattle.bd_entry.specs.RulesOfRights.{Stands}
-use Rattle.bd_entry.specs.Store.{Descriptor, descriptor_at, has_part}
+use Rattle.bd_entry.specs.Store.{Descriptor}
 use Rattle.bd_entry.proofs.Accesses.{of_call-in_store}
 use Rattle.bd_entry.proofs.NextActs.{then_from}
 use Rattle.bd_entry.proofs.Slots.{some_of}
@@ -40,18 +39,17 @@ use Rattle.bd_turns.specs.Processors as processors
 use Rattle.bd_turns.specs.Processors.{is_on, is_on_state, is_posted, next_action, unposted}
 use Rattle.bd_turns.specs.Reached.{IsReached}
 use Rattle.bd_turns.specs.Rest.{is_by, is_on_file, revocation_turns, right_turns}
-use Rattle.bd_turns.specs.Sound.{IsPostedState, IsRightOf, is_revoked}
+use Rattle.bd_turns.specs.Sound.{IsRightOf}
 use Rattle.bd_turns.specs.State.{Posted, State, progress_of, running}
 use Rattle.bd_turns.specs.Turns.{posting_place}
 use Rattle.bd_turns.proofs.EntriesOfCalls.{cleared_by}
 use Rattle.bd_turns.proofs.FoundElements.{find-element}
 use Rattle.bd_turns.proofs.Invalidations.{posts_unposted}
 use Rattle.bd_turns.proofs.KeysToRevoke.{MayRevoke, revocable}
-use Rattle.bd_turns.proofs.LegalDetaches.{IsPosting, posting}
+use Rattle.bd_turns.proofs.LegalDetaches.{posting}
 use Rattle.bd_turns.proofs.RevocationTurns.{change_falls, change_rises_not, post_falls, post_rises_not, remove_falls, remove_rises_not, revocation_falls, same_key-self}
 use Rattle.bd_turns.proofs.RightsAfterTurns.{on_from, other_keys, state_set}
 use Rattle.bd_turns.proofs.RightsOfTurns.{KeepsTest, Lowers, front_posted, lowers_by, some_turns}
-use Rattle.bd_turns.proofs.RightsOnFiles.{find-passes}
 
 -- to which tables an invalidation ends
 abbrev ended_to : Invalidation → Option TableState
@@ -145,7 +143,8 @@ module _ (v : Volume) (m next : State) (p : Place) (reached : IsReached v m) (ru
       let test_of : Key → Bool = λ key. not (is_on (fin.get m.tables.rights key) || is_posted m.posted key) in
       let found = find-element (MayRevoke m.store p p.call) test_of keys key (revocable m.store p.call p.at p.before) is in
       let revoke : MayRevoke m.store p p.call key = found.1 in
-      let parts = or_parts (is_on (fin.get m.tables.rights key)) (is_posted m.posted key) (not_true (is_on (fin.get m.tables.rights key) || is_posted m.posted key) found.0) in
+      let parts = or_parts (is_on (fin.get m.tables.rights key)) (is_posted m.posted key)
+      (not_true (is_on (fin.get m.tables.rights key) || is_posted m.posted key) found.0) in
       let right = some_of (fin.get m.tables.rights key) (reached.sound.tables_are.rights.all key revoke.d revoke.is_open revoke.attached) in
       let told = reached.sound.tables_are.rights.told key right.0 right.1 in
       let is_of : IsRightOf key right.0 revoke.d =
@@ -249,11 +248,15 @@ module _ (v : Volume) (m next : State) (p : Place) (reached : IsReached v m) (ru
   pub ends_to : (post : Posted) (entry : Entry) (tables : TableState) (state : RightState) → invalidate m.tables post state ≡ Some (engines.Ends entry tables) →
       tables ≡ effects.detach m.tables post.key
   ends_to post entry tables states.On does = absurd (none-some (engines.Ends entry tables) does)
-  ends_to post entry tables states.Cleared does = absurd (by (nat_eq (engines_in m.tables.walks post.key) 0) (ap ended_to (same_Some (drain m.tables post.key) (engines.Ends entry tables) does)))
+  ends_to post entry tables states.Cleared does =
+      absurd
+      (by (nat_eq (engines_in m.tables.walks post.key) 0)
+      (ap ended_to (same_Some (drain m.tables post.key) (engines.Ends entry tables) does)))
     where
       by : (b : Bool) →
           ended_to
-          (cond b (engines.Changes rows.Drain (effects.drain m.tables post.key)) (engines.WaitsFor (waits.InFlight post.key (engines_in m.tables.walks post.key))))
+          (cond b (engines.Changes rows.Drain (effects.drain m.tables post.key))
+          (engines.WaitsFor (waits.InFlight post.key (engines_in m.tables.walks post.key))))
           ≡ Some tables → ⊥
       by true is = none-some tables is
       by false is = none-some tables is
@@ -277,7 +280,8 @@ module _ (v : Volume) (m next : State) (p : Place) (reached : IsReached v m) (ru
       ap (λ (t : TableState). fin.get t.rights post.key) detached ∙ same_key-remove key_cmp_total m.tables.rights post.key in
       let others : (other : Key) → other ≢ post.key → fin.get next.tables.rights other ≡ fin.get m.tables.rights other =
       λ other differ.
-      ap (λ (t : TableState). fin.get t.rights other) detached ∙ other_key-remove key_cmp_total m.tables.rights post.key other (other_keys other post.key differ) in
+      ap (λ (t : TableState). fin.get t.rights other) detached
+      ∙ other_key-remove key_cmp_total m.tables.rights post.key other (other_keys other post.key differ) in
       let is_key = reached.sound.tables_are.tables.keys post.key at.right at.own.there in
       let left : next.posted ≡ at.rest = posted ∙ ap (drop 1) at.list in
       subst (λ (l : List Posted). revocation_turns next.tables.rights next.posted test + 1 ≤ revocation_turns m.tables.rights l test) (sym at.list)

@@ -1,27 +1,20 @@
 -- Each turn in the name of a read, a write or a raw command leaves it fewer turns.
-use Rattle.std.proofs.Common.{◌≡◌, ◌≢◌, ◌⊎◌, inl, inr, ℕ, zero, suc, ◌+◌, ◌-◌, ◌*◌, ◌<◌, ◌≤◌, Bool, true, false, not, ◌||◌, cond, List, [], ◌∷◌, ◌++◌, length, Option, None, Some, refl, sym, ap, ◌∙◌, subst, arith, ⊎_elim}
-use Rattle.std.specs.Prelude.{IsSome, drop, nat_eq, slice_get}
-use Rattle.std.specs.Option.{option_and_then, option_map, option_map_or, option_to_list}
+use Rattle.std.proofs.Common.{◌≡◌, ◌≢◌, inl, ℕ, ◌+◌, ◌*◌, ◌≤◌, Bool, true, false, not, ◌||◌, List, [], ◌∷◌, ◌++◌, Option, None, Some, refl, ap, ◌∙◌, arith}
+use Rattle.std.specs.Prelude.{drop, nat_eq}
+use Rattle.std.specs.Option.{option_to_list}
 use Rattle.std.specs.List.{list_any}
-use Rattle.std.proofs.lemmas.Bool.{and_from, both_ways, cases_Bool, cond-false, eq-eqb, false≢true, or_from, or_left, or_parts}
-use Rattle.std.proofs.lemmas.List.{append-nil}
-use Rattle.std.proofs.lemmas.Option.{none-some, same_Some, slice_get_within}
+use Rattle.std.proofs.lemmas.Bool.{false≢true, or_from}
 use Rattle.bd_base.specs.declared.script.Call.{Call}
 use Rattle.bd_base.specs.declared.script.Call.TheVariants.{Read, Write, RawRead, RawWrite}
 use Rattle.bd_base.specs.declared.volume.Inode.{Inode}
 use Rattle.bd_base.specs.declared.volume.Volume.{Volume}
-use Rattle.bd_base.specs.Pieces.{Piece}
 use Rattle.bd_entry.specs.declared.entry.Entry.{Entry}
 use Rattle.bd_entry.specs.declared.entry.Entry.TheVariants as entries
-use Rattle.bd_entry.specs.Actions.{is_none_of}
-use Rattle.bd_entry.specs.Calls.{Place, at_of, is_answer_of, is_answered, piece_of_call, pieces_of_call}
-use Rattle.bd_entry.specs.Effects.{after_change, effect_of}
-use Rattle.bd_entry.specs.Rules.{Once, place_in}
+use Rattle.bd_entry.specs.Calls.{Place, at_of, pieces_of_call}
+use Rattle.bd_entry.specs.Effects.{after_change}
+use Rattle.bd_entry.specs.Rules.{place_in}
 use Rattle.bd_entry.specs.Store.{Store, size_at, size_in}
-use Rattle.bd_entry.proofs.Accesses.{of_call-in_store, work-is_of_call}
 use Rattle.bd_entry.proofs.EffectsOnFiles.{effect_of-files}
-use Rattle.bd_entry.proofs.Slots.{some_of}
-use Rattle.bd_turns.specs.Added.{IsAdded}
 use Rattle.bd_turns.specs.Engines.{Step, engine_step}
 use Rattle.bd_turns.specs.Processors as processors
 use Rattle.bd_turns.specs.Processors.{next_action}
@@ -34,7 +27,7 @@ use Rattle.bd_turns.proofs.EngineSteps.{is_of_device, step_keeps}
 use Rattle.bd_turns.proofs.FilesOfCalls.{store_after}
 use Rattle.bd_turns.proofs.EffectiveTurns.{store_with}
 use Rattle.bd_turns.proofs.PieceSteps.{poll_outstanding, poll_turns, polls_some, step_outstanding, submission_outstanding, submission_turns}
-use Rattle.bd_turns.proofs.PieceTurns.{after, kernel_falls, kernel_grows, kernel_less, untouched_falls, untouched_less, untouched_with}
+use Rattle.bd_turns.proofs.PieceTurns.{after, kernel_less, untouched_falls, untouched_less, untouched_with}
 use Rattle.bd_turns.proofs.ProcessorTurns.{is_fresh}
 use Rattle.bd_turns.proofs.StepTurns.{steps_fall}
 
@@ -57,7 +50,7 @@ pub pieces_fall : (m next : State) (p : Place) (added : List Entry) (g : Progres
     piece_turns next (after p added) g.held + 1 ≤ piece_turns m p file
 pieces_fall m next p added g file progress falls =
     let same : piece_turns next (after p added) g.held
-        ≡ kernel_turns next.store (after p added) g.held + 9 * untouched_with (after p added) (outstanding g) + command_turns g =
+    ≡ kernel_turns next.store (after p added) g.held + 9 * untouched_with (after p added) (outstanding g) + command_turns g =
     ap
     (λ (x : Progress). kernel_turns next.store (after p added) g.held + 9 * untouched_with (after p added) (outstanding x) + command_turns x) progress in
     omega (arith, same, falls)
@@ -88,7 +81,7 @@ module _ (v : Volume) (m next : State) (reached : IsReached v m) (p : Place) (ru
       let kernel = kernel_less m.store next.store p [] old.held (λ file held. ap (λ (s : Store). size_in s file) store) in
       let fewer = untouched_falls p outs piece facts.within untouched_is in
       let same : untouched_with (after p []) (outstanding (record old { submitted = old.submitted ++ piece ∷ [] }))
-          ≡ untouched_with (after p []) (outs ++ piece ∷ []) =
+      ≡ untouched_with (after p []) (outs ++ piece ∷ []) =
       ap (untouched_with (after p [])) (submission_outstanding old piece) in
       let turns = submission_turns old piece in
       omega (arith, kernel, fewer, same, turns)
@@ -122,7 +115,8 @@ module _ (v : Volume) (m next : State) (reached : IsReached v m) (p : Place) (ru
       let turns = falls.falls in
       omega (arith, kernel, held, fewer, turns)
     where
-      by : (file : ℕ) (o : Option Entry) → ((e : Entry) → o ≡ Some e → is_of_device e ≡ true) → size_in (store_with m.store p.call o) file ≡ size_in m.store file
+      by : (file : ℕ) (o : Option Entry) → ((e : Entry) → o ≡ Some e → is_of_device e ≡ true) →
+          size_in (store_with m.store p.call o) file ≡ size_in m.store file
       by file None device = refl
       by file (Some e) device = device_size m.store p.call e file (device e refl)
 

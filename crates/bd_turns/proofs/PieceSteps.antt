@@ -1,17 +1,17 @@
 -- What turns do to the commands of a call: which are outstanding, and how many turns they take.
-use Rattle.std.proofs.Common.{◌≡◌, ◌⊎◌, inl, inr, ℕ, ◌+◌, ◌≤◌, Bool, true, false, not, ◌||◌, cond, List, [], ◌∷◌, ◌++◌, length, map, Option, None, Some, refl, sym, ap, ◌∙◌, subst, arith, append_assoc, length-append, ⊎_elim}
+use Rattle.std.proofs.Common.{◌≡◌, ◌⊎◌, inl, inr, ℕ, ◌+◌, ◌≤◌, Bool, true, false, ◌||◌, cond, List, [], ◌∷◌, ◌++◌, length, map, Option, Some, refl, sym, ap, ◌∙◌, subst, arith, append_assoc, length-append, ⊎_elim}
 use Rattle.std.specs.Prelude.{All, drop, nat_eq}
-use Rattle.std.specs.Option.{option_map, option_map_or}
+use Rattle.std.specs.Option.{option_map}
 use Rattle.std.specs.List.{list_any}
-use Rattle.std.proofs.lemmas.Bool.{both_ways, eqb-true, false≢true, or_cases}
+use Rattle.std.proofs.lemmas.Bool.{eqb-true, false≢true, or_cases}
 use Rattle.std.proofs.lemmas.List.{append-nil}
 use Rattle.std.proofs.lemmas.List.Elements.{All-head}
-use Rattle.std.proofs.lemmas.Option.{none-some, same_Some}
+use Rattle.std.proofs.lemmas.Option.{same_Some}
 use Rattle.bd_entry.specs.declared.act.Act.{Act}
 use Rattle.bd_entry.specs.declared.act.Act.TheVariants as acts
 use Rattle.bd_entry.specs.declared.entry.Entry.{Entry}
 use Rattle.bd_entry.specs.Actions.{entry_of_act, is_none_of, next_act}
-use Rattle.bd_entry.specs.Calls.{Place, has_missed, is_answered}
+use Rattle.bd_entry.specs.Calls.{Place, has_missed}
 use Rattle.bd_entry.proofs.NextActs.{map_from, then_from}
 use Rattle.bd_turns.specs.declared.turn.Wait.{Wait}
 use Rattle.bd_turns.specs.declared.turn.Wait.TheVariants as waits
@@ -21,7 +21,6 @@ use Rattle.bd_turns.specs.Processors.{Action, action_for, least_outstanding, nex
 use Rattle.bd_turns.specs.Rest.{command_turns}
 use Rattle.bd_turns.specs.Sound.{AreCommands, is_told}
 use Rattle.bd_turns.specs.State.{Completed, InHand, Progress, State, holder_of, outstanding, pieces_in_hand, progress_of}
-use Rattle.bd_turns.proofs.EngineCommands.{given_back, hand_of, taken, with_phase}
 use Rattle.bd_turns.proofs.EngineStepsOfCalls.{StepDoes}
 use Rattle.bd_turns.proofs.Revocations.{Revokes, revokes}
 

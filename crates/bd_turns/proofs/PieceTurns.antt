@@ -1,18 +1,16 @@
 -- Each turn for the pieces of a call leaves it fewer turns.
-use Rattle.std.proofs.Common.{◌≡◌, ◌≢◌, ◌⊎◌, inl, inr, ℕ, zero, suc, ◌+◌, ◌-◌, ◌*◌, ◌<◌, ◌≤◌, Bool, true, false, not, ◌||◌, cond, List, [], ◌∷◌, ◌++◌, length, map, Option, None, Some, refl, sym, ap, ◌∙◌, subst, arith, length-append, ⊎_elim}
-use Rattle.std.specs.Prelude.{count_by, drop, nat_eq}
-use Rattle.std.specs.Option.{option_map_or}
-use Rattle.std.specs.List.{list_any, range_with_len, sum_by}
-use Rattle.std.proofs.lemmas.Bool.{and_parts, both_ways, cases_Bool, cond-false, cond-true, eq-eqb, false_from_ne_true, false≢true, or_cases, or_from, or_left, or_parts, or_right}
+use Rattle.std.proofs.Common.{◌≡◌, ◌⊎◌, inl, ℕ, ◌+◌, ◌<◌, ◌≤◌, Bool, true, false, not, ◌||◌, cond, List, [], ◌∷◌, ◌++◌, length, Option, None, Some, refl, sym, ap, ◌∙◌, arith, ⊎_elim}
+use Rattle.std.specs.Prelude.{count_by, nat_eq}
+use Rattle.std.specs.List.{list_any, range_with_len}
+use Rattle.std.proofs.lemmas.Bool.{both_ways, cond-false, cond-true, eq-eqb, false_from_ne_true, false≢true, or_from, or_left, or_parts, or_right}
 use Rattle.std.proofs.lemmas.List.Folds.{list_any-append}
 use Rattle.std.proofs.lemmas.List.Sums.{count_by-le-length, sum-map}
 use Rattle.std.proofs.lemmas.List.FromFn.{length-range_with_len}
 use Rattle.bd_entry.specs.declared.entry.Entry.{Entry}
-use Rattle.bd_entry.specs.Actions.{Running, is_none_of, is_untouched, piece_numbers}
+use Rattle.bd_entry.specs.Actions.{is_untouched, piece_numbers}
 use Rattle.bd_entry.specs.Calls.{Place, has_missed, is_answer_of, is_answered, is_miss_of, pieces_of_call}
 use Rattle.bd_entry.specs.Store.{Store, size_in}
-use Rattle.bd_turns.specs.Rest.{command_turns, end_of_call, growth_turns, kernel_turns, unanswered}
-use Rattle.bd_turns.specs.State.{Progress}
+use Rattle.bd_turns.specs.Rest.{end_of_call, growth_turns, kernel_turns, unanswered}
 use Rattle.bd_turns.proofs.Sums.{sum_below_by, sum_from, sum_less}
 
 -- ---- counts
@@ -157,7 +155,8 @@ untouched_falls p outs number within is =
     (λ i. untouched_kept p [] outs new i (λ out. inl (joined i ∙ or_left (list_any (nat_eq i) outs) (nat_eq i number || false) out))) is
     (ap not
     (or_right (is_answered number (p.before ++ []) || has_missed number (p.before ++ [])) (list_any (nat_eq number) new)
-    (joined number ∙ or_right (list_any (nat_eq number) outs) (nat_eq number number || false) (or_left (nat_eq number number) false (eq-eqb number number refl)))))
+    (joined number
+    ∙ or_right (list_any (nat_eq number) outs) (nat_eq number number || false) (or_left (nat_eq number number) false (eq-eqb number number refl)))))
 
 -- ---- the turns of the kernel
 

@@ -1,10 +1,10 @@
 -- The own action of a read, a write or a raw command that goes on is there.
-use Rattle.std.proofs.Common.{◌≡◌, ◌≢◌, ◌⊎◌, inl, inr, ℕ, zero, suc, ◌+◌, ◌<◌, ◌≤◌, Bool, true, false, not, ◌&&◌, ◌||◌, cond, List, [], ◌∷◌, ◌++◌, length, Option, None, Some, refl, sym, ap, ◌∙◌, subst, arith, get_or, ⊎_elim}
-use Rattle.std.specs.Prelude.{nat_eq, slice_get}
+use Rattle.std.proofs.Common.{◌≡◌, ◌⊎◌, inl, inr, ℕ, zero, suc, ◌+◌, ◌<◌, ◌≤◌, Bool, true, false, not, ◌&&◌, ◌||◌, cond, List, [], ◌∷◌, ◌++◌, length, Option, None, Some, refl, sym, ap, ◌∙◌, arith, get_or, ⊎_elim}
+use Rattle.std.specs.Prelude.{nat_eq}
 use Rattle.std.specs.Option.{option_and_then, option_map, option_map_or, option_or}
 use Rattle.std.specs.List.{find, list_all, list_any, range_with_len}
-use Rattle.std.proofs.lemmas.Bool.{and_cases, and_from, and_parts, both_ways, cases_Bool, false_from_ne_true, false≢true, or_from, or_left, or_parts, or_right}
-use Rattle.std.proofs.lemmas.Option.{none-some, same_Some, slice_get-get_or}
+use Rattle.std.proofs.lemmas.Bool.{and_cases, and_from, both_ways, cases_Bool, false_from_ne_true, false≢true, or_from, or_left, or_parts, or_right}
+use Rattle.std.proofs.lemmas.Option.{slice_get-get_or}
 use Rattle.bd_base.specs.declared.reason.Reason.{Reason}
 use Rattle.bd_base.specs.declared.reason.Reason.TheVariants as reasons
 use Rattle.bd_base.specs.declared.script.Call.{Call}
@@ -19,15 +19,14 @@ use Rattle.bd_entry.specs.declared.act.Act.{Act}
 use Rattle.bd_entry.specs.declared.act.Act.TheVariants as acts
 use Rattle.bd_entry.specs.declared.entry.Entry.{Entry}
 use Rattle.bd_entry.specs.declared.entry.Entry.TheVariants as entries
-use Rattle.bd_entry.specs.Actions.{Holders, Running, access_piece, busy, entry_of_act, is_for_device, is_none_of, is_untouched, kernel_entry, kernel_part, kernel_way, move_piece, piece_numbers, submit_or_poll, write_piece}
-use Rattle.bd_entry.specs.Calls.{Place, are_all_answered, does_write, fd_of, has_missed, is_answered, is_ended_by, is_end_of, is_made_by, is_miss_of, is_answer_of, is_raw, piece_end, piece_of_call, pieces_of_call}
+use Rattle.bd_entry.specs.Actions.{Holders, Running, access_piece, busy, is_for_device, is_none_of, is_untouched, kernel_entry, kernel_part, kernel_way, move_piece, piece_numbers, submit_or_poll, write_piece}
+use Rattle.bd_entry.specs.Calls.{Place, are_all_answered, does_write, fd_of, has_missed, is_answered, is_end_of, is_made_by, is_miss_of, is_answer_of, is_raw, piece_end, piece_of_call, pieces_of_call}
 use Rattle.bd_entry.specs.Laws.{AreOfCall}
 use Rattle.bd_entry.specs.NextEntries.{IsReadyPlace, running}
 use Rattle.bd_entry.specs.Refusals.{descriptor_of, first_refusal, goes_direct, growth_reason_of, is_for_kernel, is_next_for_kernel, is_read_only, next_size, reason_if}
 use Rattle.bd_entry.specs.Store.{Descriptor, Store, Valid, descriptor_at, file_in, size_in}
 use Rattle.bd_entry.proofs.NextActs.{open_descriptor}
 use Rattle.bd_entry.proofs.Slots.{some_of}
-use Rattle.bd_turns.proofs.BusyEngines.{There}
 use Rattle.bd_turns.proofs.NextActsThere.{HasOwn, IsDoable, IsDone, adds, polls, submits}
 
 -- ---- entries of a call that goes on
@@ -210,11 +209,11 @@ kernel_there s holders r fd d free valid named of next = by (find (is_next_for_k
         slice_get-get_or (pieces_of_call r.place.call) number none (omega arith) in (
           move_piece s r.place number piece d,
           ap
-          (λ (o : Option Act). option_or o
-          (option_and_then (λ piece. option_map (move_piece s r.place number piece) (descriptor_of s r.place)) (piece_of_call r.place.call number)))
-          free
-          ∙ ap (option_and_then (λ piece. option_map (move_piece s r.place number piece) (descriptor_of s r.place))) piece_is
-          ∙ ap (option_map (move_piece s r.place number piece)) of,
+              (λ (o : Option Act). option_or o
+              (option_and_then (λ piece. option_map (move_piece s r.place number piece) (descriptor_of s r.place)) (piece_of_call r.place.call number)))
+              free
+              ∙ ap (option_and_then (λ piece. option_map (move_piece s r.place number piece) (descriptor_of s r.place))) piece_is
+              ∙ ap (option_map (move_piece s r.place number piece)) of,
           move_doable s r number fd piece d valid named piece_is of,
         )
 

@@ -1,8 +1,6 @@
 -- The turns of a revocation fall with each of its turns, and rise with none of another call.
-use Rattle.std.proofs.Common.{◌≡◌, ◌≢◌, ℕ, zero, suc, ◌+◌, ◌*◌, ◌<◌, ◌≤◌, Bool, true, false, not, ◌||◌, cond, List, [], ◌∷◌, ◌++◌, length, Option, None, Some, refl, sym, ap, ◌∙◌, subst, arith, get_or, set, ⊎_elim}
-use Rattle.std.specs.Prelude.{count_by, drop, position}
-use Rattle.std.specs.Option.{option_map}
-use Rattle.std.specs.List.{list_any}
+use Rattle.std.proofs.Common.{◌≡◌, ◌≢◌, ℕ, ◌+◌, ◌<◌, ◌≤◌, Bool, true, false, not, ◌||◌, cond, List, [], ◌∷◌, ◌++◌, length, Option, None, Some, refl, sym, ap, ◌∙◌, subst, arith, ⊎_elim}
+use Rattle.std.specs.Prelude.{count_by}
 use Rattle.std.specs.FinMap as fin
 use Rattle.std.specs.Cmp.{tied_itself}
 use Rattle.std.specs.Ordering.{is_eq}
@@ -11,11 +9,10 @@ use Rattle.std.proofs.lemmas.List.Folds.{list_any-append}
 use Rattle.std.proofs.lemmas.List.Sums.{count_by-le-length}
 use Rattle.bd_base.specs.declared.key.Key.{Key}
 use Rattle.bd_base.specs.declared.limits.TheConstants.{DESCRIPTORS, PARTS, PROCESSES}
-use Rattle.bd_base.specs.Keys.{key_cmp, key_cmp_total, same_key, same_key-is}
+use Rattle.bd_base.specs.Keys.{key_cmp_total, same_key, same_key-is}
 use Rattle.bd_tables.specs.declared.state.Right.{Right}
 use Rattle.bd_tables.specs.declared.state.RightState.{RightState}
 use Rattle.bd_tables.specs.declared.state.RightState.TheVariants as states
-use Rattle.bd_tables.specs.Effects.{none_swept}
 use Rattle.bd_tables.specs.Sound.{IsKey}
 use Rattle.bd_tables.specs.State.{Rights}
 use Rattle.bd_turns.specs.Processors.{is_posted}
@@ -124,7 +121,8 @@ module _ (rights after : Rights) (post : Posted) (rest : List Posted) (here : fi
 
 -- ---- a right whose invalidation is posted
 
-is_posted-push : (posted : List Posted) (post : Posted) (key : Key) → is_posted (posted ++ post ∷ []) key ≡ (is_posted posted key || (same_key post.key key || false))
+is_posted-push : (posted : List Posted) (post : Posted) (key : Key) →
+    is_posted (posted ++ post ∷ []) key ≡ (is_posted posted key || (same_key post.key key || false))
 is_posted-push posted post key = list_any-append (λ (p : Posted). same_key p.key key) posted (post ∷ [])
 
 module _ (rights after : Rights) (posted : List Posted) (post : Posted) (stays : (key : Key) → fin.get after key ≡ fin.get rights key)

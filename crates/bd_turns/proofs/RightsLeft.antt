@@ -1,9 +1,9 @@
 -- What each kind of turn leaves of the turns that revocations take, for every test of rights.
-use Rattle.std.proofs.Common.{◌≡◌, ◌≢◌, ℕ, ◌+◌, ◌≤◌, Bool, true, false, List, [], ◌∷◌, ◌++◌, Option, None, Some, refl, sym, ap, ◌∙◌, subst, arith, ⊎_elim}
+use Rattle.std.proofs.Common.{◌≡◌, ℕ, ◌+◌, ◌≤◌, Bool, true, false, List, [], ◌∷◌, ◌++◌, Option, None, Some, refl, sym, ap, ◌∙◌, subst, arith, ⊎_elim}
 use Rattle.std.specs.Prelude.{drop}
 use Rattle.std.specs.Option.{option_map_or}
 use Rattle.std.specs.FinMap as fin
-use Rattle.std.proofs.lemmas.Bool.{both_ways, false≢true}
+use Rattle.std.proofs.lemmas.Bool.{both_ways}
 use Rattle.std.proofs.lemmas.Option.{none-some, same_Some}
 use Rattle.bd_base.specs.declared.journal.At.{At}
 use Rattle.bd_base.specs.declared.key.Key.{Key}
@@ -11,10 +11,9 @@ use Rattle.bd_base.specs.declared.volume.Volume.{Volume}
 use Rattle.bd_base.specs.Keys.{key_cmp_total}
 use Rattle.bd_entry.specs.declared.entry.Entry.{Entry}
 use Rattle.bd_entry.specs.declared.entry.Entry.TheVariants as entries
-use Rattle.bd_entry.specs.Actions.{entry_of_act, next_act}
+use Rattle.bd_entry.specs.Actions.{next_act}
 use Rattle.bd_entry.specs.Calls.{Place}
-use Rattle.bd_entry.specs.Rules.{Rights, RightFile, place_in}
-use Rattle.bd_entry.specs.RulesOfRights.{Stands}
+use Rattle.bd_entry.specs.Rules.{Rights}
 use Rattle.bd_entry.specs.Store.{Descriptor, Store, descriptor_at}
 use Rattle.bd_entry.proofs.NextActs.{then_from}
 use Rattle.bd_entry.proofs.Slots.{some_of}
@@ -34,8 +33,8 @@ use Rattle.bd_turns.specs.Processors.{action_for, is_posted, next_action, runnin
 use Rattle.bd_turns.specs.Reached.{IsReached}
 use Rattle.bd_turns.specs.Rest.{right_turns}
 use Rattle.bd_turns.specs.Sound.{IsRightOf}
-use Rattle.bd_turns.specs.State.{Posted, State, holder_of, progress_of, running}
-use Rattle.bd_turns.specs.Turns.{attached_tables, grown_tables, may_write, posting_place, tables_after}
+use Rattle.bd_turns.specs.State.{Posted, State, holder_of, running}
+use Rattle.bd_turns.specs.Turns.{attached_tables, may_write, posting_place, tables_after}
 use Rattle.bd_turns.proofs.ActionsOfCalls.{adds_for}
 use Rattle.bd_turns.proofs.AddedEntries.{acts_detach_nothing, is_detach}
 use Rattle.bd_turns.proofs.AttachTurns.{attached_slot}

@@ -1,9 +1,9 @@
 -- What a turn does to the turns that revocations take: those of its own call fall, and those of another call rise not.
-use Rattle.std.proofs.Common.{◌≡◌, ◌≢◌, ℕ, zero, suc, ◌+◌, ◌<◌, ◌≤◌, Bool, true, false, not, ◌||◌, cond, List, [], ◌∷◌, ◌++◌, length, Option, None, Some, refl, sym, ap, ◌∙◌, subst, arith, get_or, set, ⊎_elim}
+use Rattle.std.proofs.Common.{◌≡◌, ◌≢◌, ℕ, ◌+◌, ◌<◌, ◌≤◌, Bool, true, false, not, cond, List, ◌∷◌, length, Option, None, Some, refl, sym, ap, ◌∙◌, subst, arith, get_or, set}
 use Rattle.std.specs.Prelude.{count_by, nat_eq, position}
-use Rattle.std.specs.Option.{option_and_then, option_map_or}
+use Rattle.std.specs.Option.{option_map_or}
 use Rattle.std.specs.FinMap as fin
-use Rattle.std.proofs.lemmas.Bool.{and_from, and_parts, both_ways, cases_Bool, cond-true, false_from_ne_true, false≢true, or_left, or_parts}
+use Rattle.std.proofs.lemmas.Bool.{cond-true, or_left}
 use Rattle.std.proofs.lemmas.List.Quantifiers.{position-Some}
 use Rattle.std.proofs.lemmas.List.Sums.{sum_by-set}
 use Rattle.std.proofs.lemmas.Option.{none-some, same_Some}
@@ -16,8 +16,7 @@ use Rattle.bd_tables.specs.declared.state.Right.{Right}
 use Rattle.bd_tables.specs.declared.state.RightState.{RightState}
 use Rattle.bd_tables.specs.declared.state.RightState.TheVariants as states
 use Rattle.bd_tables.specs.Effects as effects
-use Rattle.bd_tables.specs.Sound.{IsKey}
-use Rattle.bd_tables.specs.State.{Rights, TableState, engines_in}
+use Rattle.bd_tables.specs.State.{TableState, engines_in}
 use Rattle.bd_tables.proofs.Maps.{other_key-change}
 use Rattle.bd_turns.specs.declared.turn.Row.{Row}
 use Rattle.bd_turns.specs.declared.turn.Row.TheVariants as rows
@@ -25,10 +24,10 @@ use Rattle.bd_turns.specs.declared.turn.Wait.TheVariants as waits
 use Rattle.bd_turns.specs.Engines as engines
 use Rattle.bd_turns.specs.Engines.{Invalidation, detach, drain, invalidate, invalidation_of, sweep_or_detach}
 use Rattle.bd_turns.specs.Processors.{is_posted}
-use Rattle.bd_turns.specs.Rest.{key_turns, revocation_turns, right_turns}
+use Rattle.bd_turns.specs.Rest.{right_turns}
 use Rattle.bd_turns.specs.State.{Posted, State}
-use Rattle.bd_turns.proofs.RevocationTurns.{NoneRises, attach_rises_not, change_falls, change_rises_not, post_falls, post_rises_not, remove_falls, remove_rises_not, revocation_falls, revocation_rises_not, same_key-self, stay_rises_not}
-use Rattle.bd_turns.proofs.RightsAfterTurns.{Changes, IsFront, SetsAt, attaches, clears, detaches, leaves, moves, other_keys, posts, state_set}
+use Rattle.bd_turns.proofs.RevocationTurns.{NoneRises, attach_rises_not, change_rises_not, post_rises_not, remove_rises_not, same_key-self, stay_rises_not}
+use Rattle.bd_turns.proofs.RightsAfterTurns.{Changes, attaches, clears, detaches, leaves, moves, other_keys, posts, state_set}
 
 -- ---- the state of the right at the front
 

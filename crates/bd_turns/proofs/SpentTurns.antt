@@ -1,11 +1,10 @@
 -- What each effective turn takes of its call: one turn more was used, or the call has ended.
-use Rattle.std.proofs.Common.{◌≡◌, ◌≢◌, ◌⊎◌, inl, inr, ℕ, zero, suc, ◌+◌, ◌-◌, ◌*◌, ◌<◌, ◌≤◌, Bool, true, false, cond, List, [], ◌∷◌, ◌++◌, length, Option, None, Some, refl, sym, ap, ◌∙◌, subst, arith, ⊎_elim}
+use Rattle.std.proofs.Common.{◌≡◌, ◌≢◌, ◌⊎◌, inl, inr, ℕ, ◌+◌, ◌<◌, Bool, true, false, cond, List, [], ◌∷◌, ◌++◌, length, Option, None, Some, refl, sym, ap, ◌∙◌, subst}
 use Rattle.std.specs.Prelude.{drop}
 use Rattle.std.proofs.lemmas.List.{get_or-set_other, get_or-set_same, length-set}
 use Rattle.bd_base.specs.declared.volume.Volume.{Volume}
 use Rattle.bd_entry.specs.declared.entry.Entry.{Entry}
 use Rattle.bd_entry.specs.Calls.{Place, entries_of}
-use Rattle.bd_turns.specs.Engines.{Step}
 use Rattle.bd_turns.specs.Reached.{IsReached}
 use Rattle.bd_entry.specs.Refusals.{file_of}
 use Rattle.bd_turns.specs.declared.turn.Row.TheVariants as rows
@@ -100,6 +99,8 @@ effective_spends v m next reached (steps p step runs stepping) =
     of_entry (Some e) ended used = spent_set m _ p step.progress runs reached.sound.calls.processes refl refl ended used
 effective_spends v m next reached (changes p row tables place acting) =
     (p, spent m (record m { tables = tables }) p (posting v m p reached place).running_is reached.sound.calls.processes refl refl (λ q differ. refl) refl refl)
-effective_spends v m next reached (ends p e tables place acting) =
-    (p, spent m (record (with_entry m p.call e p.at) { tables = tables; posted = drop 1 m.posted }) p (posting v m p reached place).running_is
-    reached.sound.calls.processes refl refl (λ q differ. refl) refl refl)
+effective_spends v m next reached (ends p e tables place acting) = (
+  p,
+  spent m (record (with_entry m p.call e p.at) { tables = tables; posted = drop 1 m.posted }) p (posting v m p reached place).running_is
+      reached.sound.calls.processes refl refl (λ q differ. refl) refl refl,
+)

@@ -1,6 +1,6 @@
 -- Each step of a device engine leaves its commands fewer turns.
-use Rattle.std.proofs.Common.{◌≡◌, ℕ, ◌+◌, ◌*◌, ◌≤◌, Bool, List, [], ◌∷◌, ◌++◌, length, Option, None, Some, refl, sym, ap, ◌∙◌, subst, arith, length-append}
-use Rattle.std.specs.Option.{option_and_then, option_map, option_map_or}
+use Rattle.std.proofs.Common.{◌≡◌, ℕ, ◌+◌, ◌≤◌, List, [], ◌∷◌, ◌++◌, length, Option, None, Some, refl, ap, ◌∙◌, subst, arith, length-append}
+use Rattle.std.specs.Option.{option_map, option_map_or}
 use Rattle.std.proofs.lemmas.Option.{none-some, same_Some}
 use Rattle.bd_base.specs.declared.journal.Found.{Found}
 use Rattle.bd_base.specs.declared.key.Cell.{Cell}
@@ -8,7 +8,6 @@ use Rattle.std.specs.FinMap as fin
 use Rattle.bd_entry.specs.Calls.{Place, has_missed}
 use Rattle.bd_entry.proofs.NextActs.{map_from, then_from}
 use Rattle.bd_lines.specs.Lines.{hit}
-use Rattle.bd_tables.specs.declared.request.Completion.{Completion}
 use Rattle.bd_tables.specs.declared.request.Request.{Request}
 use Rattle.bd_tables.specs.State.{TableState, found_entering, found_of, found_reading, lookup, told_of, walk_at}
 use Rattle.bd_turns.specs.Engines.{Step, complete, engine_step, engine_with, enter, fill, go_on, look, miss, move, move_entry_of, notes, phase_after, phase_looked, read_entry, request_of_piece, retire, take_command, walks}

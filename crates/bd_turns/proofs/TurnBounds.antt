@@ -1,8 +1,7 @@
 -- A call that begins has at most so many turns left as any call takes.
-use Rattle.std.proofs.Common.{◌≡◌, ◌≢◌, ◌⊎◌, ℕ, zero, suc, ◌+◌, ◌-◌, ◌*◌, ◌/◌, ◌<◌, ◌≤◌, Bool, true, false, not, cond, List, [], ◌∷◌, ◌++◌, length, map, Option, None, Some, refl, sym, ap, ◌∙◌, subst, arith, get_or, ⊎_elim}
-use Rattle.std.specs.Prelude.{count_by, nat_lt, slice_get}
+use Rattle.std.proofs.Common.{◌≡◌, ℕ, ◌+◌, ◌<◌, ◌≤◌, true, false, List, [], ◌∷◌, ◌++◌, length, map, Option, None, Some, refl, sym, ap, ◌∙◌, arith, get_or, ⊎_elim}
+use Rattle.std.specs.Prelude.{nat_lt}
 use Rattle.std.specs.Option.{option_map_or}
-use Rattle.std.specs.FinMap as fin
 use Rattle.std.proofs.lemmas.Bool.{cases_lt, both_ways, false≢true, lt-ltb}
 use Rattle.std.proofs.lemmas.Option.{slice_get-get_or}
 use Rattle.bd_base.specs.declared.limits.TheConstants.{FILE_SIZE}
@@ -18,14 +17,13 @@ use Rattle.bd_base.specs.Pieces.{Piece}
 use Rattle.bd_base.specs.Scripts.{IsCall}
 use Rattle.bd_entry.specs.Calls.{Place, fd_of, piece_of_call, pieces_of_call}
 use Rattle.bd_entry.specs.Refusals.{file_of, first_refusal, is_read_only, reason_if, truncate_refusal}
-use Rattle.bd_entry.specs.Store.{Store, blocks_in, descriptor_at, file_in, size_in}
+use Rattle.bd_entry.specs.Store.{blocks_in, descriptor_at, size_in}
 use Rattle.bd_entry.proofs.HistoryLaws.{is_call}
 use Rattle.bd_entry.proofs.NextActs.{open_descriptor, or_none}
 use Rattle.bd_entry.proofs.NextFiles.{reason_if-none}
 use Rattle.bd_entry.proofs.RangesOfPieces.{piece_of_call-is}
-use Rattle.bd_tables.specs.declared.state.Right.{Right}
 use Rattle.bd_turns.specs.Reached.{IsReached}
-use Rattle.bd_turns.specs.Rest.{attach_turns, command_turns, is_by, is_on_file, kernel_turns, phase_turns, piece_turns, revocation_turns, size_turns, turns_for}
+use Rattle.bd_turns.specs.Rest.{attach_turns, command_turns, is_by, is_on_file, kernel_turns, phase_turns, piece_turns, revocation_turns, turns_for}
 use Rattle.bd_turns.specs.Sound.{keeps_allowed}
 use Rattle.bd_turns.specs.State.{Completed, InHand, Progress, State, outstanding, pieces_in_hand, progress_of, running}
 use Rattle.bd_turns.proofs.AttachTurns.{part_bound}

@@ -1,27 +1,20 @@
 -- After a turn that leaves its own call fewer turns, and no other more, each call is within the turns that it may take.
-use Rattle.std.proofs.Common.{◌≡◌, ◌≢◌, ◌⊎◌, inl, inr, ℕ, zero, suc, ◌+◌, ◌<◌, ◌≤◌, Bool, true, false, not, ◌&&◌, List, [], ◌∷◌, ◌++◌, Option, None, Some, refl, sym, ap, ◌∙◌, subst, arith, ⊎_elim}
+use Rattle.std.proofs.Common.{◌≡◌, ◌≢◌, ◌⊎◌, inl, inr, ℕ, ◌+◌, ◌≤◌, true, false, not, ◌&&◌, List, [], ◌∷◌, ◌++◌, Option, None, Some, refl, sym, ap, ◌∙◌, subst, arith, ⊎_elim}
 use Rattle.std.specs.Option.{option_to_list}
 use Rattle.std.proofs.lemmas.Bool.{both_ways, cases_Bool, cases_eq, false≢true}
 use Rattle.std.proofs.lemmas.Option.{none-some, same_Some}
 use Rattle.bd_base.specs.declared.volume.Volume.{Volume}
 use Rattle.bd_entry.specs.declared.entry.Entry.{Entry}
 use Rattle.bd_entry.specs.Actions.{has_begun, is_none_of}
-use Rattle.bd_entry.specs.Calls.{Place, pieces_of_call}
-use Rattle.bd_entry.specs.Refusals.{file_of, first_refusal}
+use Rattle.bd_entry.specs.Calls.{Place}
 use Rattle.bd_turns.specs.Processors.{running_of}
 use Rattle.bd_turns.specs.Reached.{IsReached}
 use Rattle.bd_turns.specs.Rest.{AreWithinTurns, turns_for, turns_left}
-use Rattle.bd_turns.specs.Sound.{keeps_allowed}
-use Rattle.bd_turns.specs.State.{Progress, State, has_ended, outstanding, progress_of, running}
-use Rattle.bd_turns.specs.Turns.{holds_throughout, with_call_ended, with_turn_used}
-use Rattle.bd_turns.proofs.ActionsOfCalls.{empty-unbegun, no_commands}
-use Rattle.bd_turns.proofs.CallsAfterTurns.{Ends, GoesOn, runs_at, runs_of}
+use Rattle.bd_turns.specs.State.{Progress, State, outstanding, progress_of, running}
+use Rattle.bd_turns.proofs.CallsAfterTurns.{Ends, GoesOn, runs_of}
 use Rattle.bd_turns.proofs.EffectiveTurns.{Turned}
-use Rattle.bd_turns.proofs.FileOwn.{has_pieces, no_pieces_of, some_pieces}
 use Rattle.bd_turns.proofs.OtherTurns.{LeavesRights, others_not}
-use Rattle.bd_turns.proofs.PieceOwn.{PiecesFall, of_pieces, pieces_fall}
 use Rattle.bd_turns.proofs.PieceTurns.{after}
-use Rattle.bd_turns.proofs.TurnBounds.{file_call_few, pieces_few}
 
 -- ---- what a turn does to its own call
 
@@ -124,7 +117,8 @@ module _ (v : Volume) (m next : State) (p : Place) (entry : Option Entry) (g : P
         (λ goes. absurd (none-some (after p added) (sym is ∙ ap (running next) mine ∙ goes.running_is)))
         (λ ended. ap (λ (x : Progress). x.used) ended.progress_is)
         takes.turned.follows.own))
-        (λ differ. ap (λ (x : Progress). x.used) (takes.turned.follows.others q differ) ∙ within.none q (sym (takes.turned.follows.other_running q differ) ∙ is))
+        (λ differ. ap (λ (x : Progress). x.used) (takes.turned.follows.others q differ)
+        ∙ within.none q (sym (takes.turned.follows.other_running q differ) ∙ is))
         (cases_eq q process);
     new = λ q x is fresh.
         ⊎_elim
@@ -139,8 +133,10 @@ module _ (v : Volume) (m next : State) (p : Place) (entry : Option Entry) (g : P
         takes.turned.follows.own))
         (λ differ.
         let was : running m q ≡ Some x = sym (takes.turned.follows.other_running q differ) ∙ is in
-        let old = within.new q x was (sym (other_begun q differ x was) ∙ fresh) in
-        (ap (λ (y : Progress). y.used) (takes.turned.follows.others q differ) ∙ old.0, ap (λ (y : Progress). y.held) (takes.turned.follows.others q differ) ∙ old.1))
+        let old = within.new q x was (sym (other_begun q differ x was) ∙ fresh) in (
+          ap (λ (y : Progress). y.used) (takes.turned.follows.others q differ) ∙ old.0,
+          ap (λ (y : Progress). y.held) (takes.turned.follows.others q differ) ∙ old.1,
+        ))
         (cases_eq q process);
     within = λ q x is begun.
         ⊎_elim

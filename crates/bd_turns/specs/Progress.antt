@@ -1,5 +1,5 @@
--- The two laws of progress: some actor acts as long as a call has not ended, and each effective turn leaves fewer. Each
--- is the contract of a function of src/progress_laws.rt.
+-- The first law of progress: some actor acts as long as a call has not ended. It is the contract of a function of
+-- src/progress_laws.rt, as are the laws of specs/Rest.antt, that each effective turn leaves fewer.
 use Rattle.std.specs.Prelude.{◌≡◌, false}
 use Rattle.bd_base.specs.declared.volume.Volume.{Volume}
 use Rattle.bd_turns.specs.Reached.{IsReached}
