@@ -92,7 +92,8 @@ some_of_range off len some none =
 pub some_pieces : (call : Call) → IsCall call → has_pieces call ≡ true → pieces_of_call call ≢ []
 some_pieces (Read fd off len) within has none = some_of_range off len within.2 none
 some_pieces (Write fd off bytes) within has none = some_of_range off (length bytes) within.2.1 none
-some_pieces (RawRead address range) within has none = let empty : length (pieces_of_call (RawRead address range)) ≡ 0 = ap (λ (l : List Piece). length l) none in omega arith
+some_pieces (RawRead address range) within has none =
+    let empty : length (pieces_of_call (RawRead address range)) ≡ 0 = ap (λ (l : List Piece). length l) none in omega arith
 some_pieces (RawWrite address lo bytes) within has none =
     let empty : length (pieces_of_call (RawWrite address lo bytes)) ≡ 0 = ap (λ (l : List Piece). length l) none in omega arith
 some_pieces call within has none = false≢true has
@@ -293,7 +294,8 @@ module _ (v : Volume) (m : State) (reached : IsReached v m) (p : Place) (runs : 
         omega (arith, here, after_is)
 
     opened : (name : List ℕ) (mode : Mode) (at : At) (other fd : ℕ) (m2 : Mode) (how : How) → p.call ≡ Enter name mode hows.Direct →
-        e ≡ entries.Opened at other fd m2 how → attach_turns next.store p.at.process (opened_fd (p.before ++ e ∷ [])) + 1 ≤ attach_turns m.store p.at.process (opened_fd p.before)
+        e ≡ entries.Opened at other fd m2 how →
+        attach_turns next.store p.at.process (opened_fd (p.before ++ e ∷ [])) + 1 ≤ attach_turns m.store p.at.process (opened_fd p.before)
     opened name mode at other fd m2 how call is =
         let x : Entry = entries.Opened at other fd m2 how in
         let none : opened_fd p.before ≡ None = opened-none p.before (first_at x is) in
@@ -361,7 +363,8 @@ module _ (v : Volume) (m : State) (reached : IsReached v m) (p : Place) (runs : 
 
       of_call : (call : Call) → p.call ≡ call → (x : Entry) → e ≡ x → is_made_by call x ≡ true →
           turns_for next (after p (e ∷ [])) call (Some file) + 1 ≤ turns_for m p call (Some file)
-      of_call (Enter name mode hows.Plain) call_is (entries.Cleared at owner fd part) is made = of_clear (Enter name mode hows.Plain) call_is at owner fd part is
+      of_call (Enter name mode hows.Plain) call_is (entries.Cleared at owner fd part) is made =
+          of_clear (Enter name mode hows.Plain) call_is at owner fd part is
       of_call (Truncate number goal) call_is (entries.Cleared at owner fd part) is made = of_clear (Truncate number goal) call_is at owner fd part is
       of_call (Close number) call_is (entries.Cleared at owner fd part) is made = of_clear (Close number) call_is at owner fd part is
       of_call (Enter name mode hows.Plain) call_is (entries.Opened at other fd m2 how) is made =

@@ -341,8 +341,8 @@ module _ (v : Volume) (m : State) (reached : IsReached v m) (within : AreWithinT
         own = λ goes.
             own_file v m next p None before_turn reached within t (without_pieces rev.through) rev.through rev.file rev.of rev.held
             (revoking_falls m next p [] rev.file rev.made.0 rev.made.1 rev.made.2 rev.made.3 rev.made.4
-            (own.changing_falls v m next p reached runs (is_on_file (Some rev.file)) (λ key right state. refl) (own.on_file-passes m p rev.file rev.of) row tables
-            place acting refl refl)
+            (own.changing_falls v m next p reached runs (is_on_file (Some rev.file)) (λ key right state. refl) (own.on_file-passes m p rev.file rev.of) row
+            tables place acting refl refl)
             (λ number call.
             own.changing_falls v m next p reached runs (is_by p.at.process number) (λ key right state. refl) (own.by-passes m p number call) row tables place
             acting refl refl)

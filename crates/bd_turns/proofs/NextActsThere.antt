@@ -50,7 +50,8 @@ module _ (s : Store) (holders : Holders) (r : Running) (free : busy s holders r.
       refused : Option Act
       refused = Some (acts.Refuse None reason)
 
-      by : (b : Bool) → cond b (Some (acts.Refuse None reason)) (option_or (busy_at_first s holders p) (Some (acts.Refuse None reason))) ≡ Some (acts.Refuse None reason)
+      by : (b : Bool) → cond b (Some (acts.Refuse None reason)) (option_or (busy_at_first s holders p) (Some (acts.Refuse None reason)))
+          ≡ Some (acts.Refuse None reason)
       by true = refl
       by false = ap (λ (o : Option Act). option_or o (Some (acts.Refuse None reason))) free_at_first
 

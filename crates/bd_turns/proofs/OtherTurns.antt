@@ -181,7 +181,8 @@ module _ (v : Volume) (m next : State) (p : Place) (entry : Option Entry) (g : P
               (λ same. differ (t.alone (entries.Attached at fd part) is refl file q (of ∙ ap Some same) holds))
 
   -- nor do those of a descriptor of the process
-  by_not : (fd : ℕ) → revocation_turns next.tables.rights next.posted (is_by x.at.process fd) ≤ revocation_turns m.tables.rights m.posted (is_by x.at.process fd)
+  by_not : (fd : ℕ) →
+      revocation_turns next.tables.rights next.posted (is_by x.at.process fd) ≤ revocation_turns m.tables.rights m.posted (is_by x.at.process fd)
   by_not fd =
       revocation_rises_not m.tables.rights next.tables.rights m.posted next.posted (is_by x.at.process fd)
       (leaves.rise_not (is_by x.at.process fd) (λ key right state. refl)
@@ -332,4 +333,5 @@ module _ (v : Volume) (m next : State) (p : Place) (entry : Option Entry) (g : P
   pub others_not : has_begun (running_of m x) ≡ true → turns_left next x ≤ turns_left m x
   others_not begun =
       subst (λ (h : Option ℕ). turns_for next x x.call h ≤ turns_left m x) (ap (λ (g : Progress). g.held) (sym same_progress))
-      (subst (λ (n : ℕ). turns_for next x x.call (progress_of m n).held ≤ turns_for m x x.call (progress_of m n).held) (sym (running_process m q x runs)) (for_not begun))
+      (subst (λ (n : ℕ). turns_for next x x.call (progress_of m n).held ≤ turns_for m x x.call (progress_of m n).held)
+      (sym (running_process m q x runs)) (for_not begun))

@@ -143,7 +143,8 @@ module _ (v : Volume) (m next : State) (p : Place) (reached : IsReached v m) (ru
       let test_of : Key → Bool = λ key. not (is_on (fin.get m.tables.rights key) || is_posted m.posted key) in
       let found = find-element (MayRevoke m.store p p.call) test_of keys key (revocable m.store p.call p.at p.before) is in
       let revoke : MayRevoke m.store p p.call key = found.1 in
-      let parts = or_parts (is_on (fin.get m.tables.rights key)) (is_posted m.posted key) (not_true (is_on (fin.get m.tables.rights key) || is_posted m.posted key) found.0) in
+      let parts = or_parts (is_on (fin.get m.tables.rights key)) (is_posted m.posted key)
+      (not_true (is_on (fin.get m.tables.rights key) || is_posted m.posted key) found.0) in
       let right = some_of (fin.get m.tables.rights key) (reached.sound.tables_are.rights.all key revoke.d revoke.is_open revoke.attached) in
       let told = reached.sound.tables_are.rights.told key right.0 right.1 in
       let is_of : IsRightOf key right.0 revoke.d =
@@ -247,11 +248,15 @@ module _ (v : Volume) (m next : State) (p : Place) (reached : IsReached v m) (ru
   pub ends_to : (post : Posted) (entry : Entry) (tables : TableState) (state : RightState) → invalidate m.tables post state ≡ Some (engines.Ends entry tables) →
       tables ≡ effects.detach m.tables post.key
   ends_to post entry tables states.On does = absurd (none-some (engines.Ends entry tables) does)
-  ends_to post entry tables states.Cleared does = absurd (by (nat_eq (engines_in m.tables.walks post.key) 0) (ap ended_to (same_Some (drain m.tables post.key) (engines.Ends entry tables) does)))
+  ends_to post entry tables states.Cleared does =
+      absurd
+      (by (nat_eq (engines_in m.tables.walks post.key) 0)
+      (ap ended_to (same_Some (drain m.tables post.key) (engines.Ends entry tables) does)))
     where
       by : (b : Bool) →
           ended_to
-          (cond b (engines.Changes rows.Drain (effects.drain m.tables post.key)) (engines.WaitsFor (waits.InFlight post.key (engines_in m.tables.walks post.key))))
+          (cond b (engines.Changes rows.Drain (effects.drain m.tables post.key))
+          (engines.WaitsFor (waits.InFlight post.key (engines_in m.tables.walks post.key))))
           ≡ Some tables → ⊥
       by true is = none-some tables is
       by false is = none-some tables is
@@ -275,7 +280,8 @@ module _ (v : Volume) (m next : State) (p : Place) (reached : IsReached v m) (ru
       ap (λ (t : TableState). fin.get t.rights post.key) detached ∙ same_key-remove key_cmp_total m.tables.rights post.key in
       let others : (other : Key) → other ≢ post.key → fin.get next.tables.rights other ≡ fin.get m.tables.rights other =
       λ other differ.
-      ap (λ (t : TableState). fin.get t.rights other) detached ∙ other_key-remove key_cmp_total m.tables.rights post.key other (other_keys other post.key differ) in
+      ap (λ (t : TableState). fin.get t.rights other) detached
+      ∙ other_key-remove key_cmp_total m.tables.rights post.key other (other_keys other post.key differ) in
       let is_key = reached.sound.tables_are.tables.keys post.key at.right at.own.there in
       let left : next.posted ≡ at.rest = posted ∙ ap (drop 1) at.list in
       subst (λ (l : List Posted). revocation_turns next.tables.rights next.posted test + 1 ≤ revocation_turns m.tables.rights l test) (sym at.list)

@@ -115,7 +115,8 @@ module _ (v : Volume) (m next : State) (reached : IsReached v m) (p : Place) (ru
       let turns = falls.falls in
       omega (arith, kernel, held, fewer, turns)
     where
-      by : (file : ℕ) (o : Option Entry) → ((e : Entry) → o ≡ Some e → is_of_device e ≡ true) → size_in (store_with m.store p.call o) file ≡ size_in m.store file
+      by : (file : ℕ) (o : Option Entry) → ((e : Entry) → o ≡ Some e → is_of_device e ≡ true) →
+          size_in (store_with m.store p.call o) file ≡ size_in m.store file
       by file None device = refl
       by file (Some e) device = device_size m.store p.call e file (device e refl)
 

@@ -155,7 +155,8 @@ untouched_falls p outs number within is =
     (λ i. untouched_kept p [] outs new i (λ out. inl (joined i ∙ or_left (list_any (nat_eq i) outs) (nat_eq i number || false) out))) is
     (ap not
     (or_right (is_answered number (p.before ++ []) || has_missed number (p.before ++ [])) (list_any (nat_eq number) new)
-    (joined number ∙ or_right (list_any (nat_eq number) outs) (nat_eq number number || false) (or_left (nat_eq number number) false (eq-eqb number number refl)))))
+    (joined number
+    ∙ or_right (list_any (nat_eq number) outs) (nat_eq number number || false) (or_left (nat_eq number number) false (eq-eqb number number refl)))))
 
 -- ---- the turns of the kernel
 

@@ -121,7 +121,8 @@ module _ (rights after : Rights) (post : Posted) (rest : List Posted) (here : fi
 
 -- ---- a right whose invalidation is posted
 
-is_posted-push : (posted : List Posted) (post : Posted) (key : Key) → is_posted (posted ++ post ∷ []) key ≡ (is_posted posted key || (same_key post.key key || false))
+is_posted-push : (posted : List Posted) (post : Posted) (key : Key) →
+    is_posted (posted ++ post ∷ []) key ≡ (is_posted posted key || (same_key post.key key || false))
 is_posted-push posted post key = list_any-append (λ (p : Posted). same_key p.key key) posted (post ∷ [])
 
 module _ (rights after : Rights) (posted : List Posted) (post : Posted) (stays : (key : Key) → fin.get after key ≡ fin.get rights key)

@@ -118,7 +118,8 @@ module _ (v : Volume) (m next : State) (p : Place) (entry : Option Entry) (g : P
         (λ goes. absurd (none-some (after p added) (sym is ∙ ap (running next) mine ∙ goes.running_is)))
         (λ ended. ap (λ (x : Progress). x.used) ended.progress_is)
         takes.turned.follows.own))
-        (λ differ. ap (λ (x : Progress). x.used) (takes.turned.follows.others q differ) ∙ within.none q (sym (takes.turned.follows.other_running q differ) ∙ is))
+        (λ differ. ap (λ (x : Progress). x.used) (takes.turned.follows.others q differ)
+        ∙ within.none q (sym (takes.turned.follows.other_running q differ) ∙ is))
         (cases_eq q process);
     new = λ q x is fresh.
         ⊎_elim
@@ -133,8 +134,10 @@ module _ (v : Volume) (m next : State) (p : Place) (entry : Option Entry) (g : P
         takes.turned.follows.own))
         (λ differ.
         let was : running m q ≡ Some x = sym (takes.turned.follows.other_running q differ) ∙ is in
-        let old = within.new q x was (sym (other_begun q differ x was) ∙ fresh) in
-        (ap (λ (y : Progress). y.used) (takes.turned.follows.others q differ) ∙ old.0, ap (λ (y : Progress). y.held) (takes.turned.follows.others q differ) ∙ old.1))
+        let old = within.new q x was (sym (other_begun q differ x was) ∙ fresh) in (
+          ap (λ (y : Progress). y.used) (takes.turned.follows.others q differ) ∙ old.0,
+          ap (λ (y : Progress). y.held) (takes.turned.follows.others q differ) ∙ old.1,
+        ))
         (cases_eq q process);
     within = λ q x is begun.
         ⊎_elim

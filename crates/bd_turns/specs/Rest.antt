@@ -1,4 +1,4 @@
--- How many effective turns are left to a running call at most, and that none takes more than the rest of a run allows it.
+-- How many effective turns are left to a running call at most, and that none takes more than the rest allows it.
 use Rattle.std.specs.Prelude.{◌≡◌, ℕ, ◌+◌, ◌-◌, ◌*◌, ◌/◌, ◌≤◌, nat_eq, nat_lt, cond, Bool, true, false, not, ◌&&◌, List, map, length, count_by, sum, Option, None, Some}
 use Rattle.std.specs.Option.{option_map_or}
 use Rattle.std.specs.List.{range_with_len}
@@ -103,8 +103,8 @@ command_turns progress =
     8 * length progress.submitted + option_map_or (λ (hand : InHand). phase_turns hand.phase) progress.hand 0
     + length progress.completed
 
--- how many turns the kernel takes for a piece at most: the file grows by a step for each block of the largest file and of
--- the piece's call, and by one in its last block, and then comes the access
+-- how many turns the kernel takes for a piece at most: the file grows by a step for each block of the largest file and
+-- of the piece's call, and by one in its last block, and then comes the access
 abbrev pub most_for_piece : ℕ
 most_for_piece = 4103
 
