@@ -31,6 +31,7 @@ use Rattle.bd_turns.specs.Processors as processors
 use Rattle.bd_turns.specs.Processors.{Action, action_for, add_entry, clear, is_on, next_action, poll, post, revocation, row_of_entry, running_of, uncleared, unposted}
 use Rattle.bd_turns.specs.State.{Progress, State, holder_of, outstanding, progress_of}
 use Rattle.bd_turns.proofs.RunningPlaces.{runs_at}
+use Rattle.bd_turns.proofs.OwnActs.{adds_by_act, is_by_no_act}
 
 -- ---- the place of an added entry
 
@@ -153,42 +154,12 @@ abbrev pub is_detach : Entry → Bool
 is_detach (entries.Detached at owner fd part) = true
 is_detach e = false
 
--- no entry that a function gives detaches where none of its values does
-maps_never : {X : Type 0} (f : X → Entry) (o : Option X) (e : Entry) → ((x : X) → is_detach (f x) ≡ false) → option_map f o ≡ Some e →
-    is_detach e ≡ false
-maps_never f o e never is = let found = map_from f o e is in ap is_detach (sym found.2) ∙ never found.0
-
 pub acts_detach_nothing : (s : Store) (p : Place) (act : Act) (e : Entry) → entry_of_act s p act ≡ Some e → is_detach e ≡ false
-acts_detach_nothing s p (acts.Busy file holder) e is = absurd (none-some e is)
-acts_detach_nothing s p (acts.Refuse piece reason) e is = ap is_detach (sym (same_Some (entries.Refused p.at piece reason) e is))
-acts_detach_nothing s p (acts.Opened file fd) e is = by p.call is
+acts_detach_nothing s p act e is = by e (adds_by_act s p act e is)
   where
-    by : (call : Call) → opened_entry p call file fd ≡ Some e → is_detach e ≡ false
-    by (Enter name mode how) is = ap is_detach (sym (same_Some (entries.Opened p.at file fd mode how) e is))
-    by call is = absurd (none-some e is)
-acts_detach_nothing s p acts.Created e is = by p.call is
-  where
-    by : (call : Call) → created_entry s p call ≡ Some e → is_detach e ≡ false
-    by (Create name perms) is = maps_never (λ file. entries.Created p.at file name perms) (free_id s.files) e (λ x. refl) is
-    by call is = absurd (none-some e is)
-acts_detach_nothing s p (acts.Attach part) e is = maps_never (λ fd. entries.Attached p.at fd part) (fd_of p) e (λ x. refl) is
-acts_detach_nothing s p (acts.Mapped count) e is = maps_never (λ fd. entries.Mapped p.at fd count) (fd_of p) e (λ x. refl) is
-acts_detach_nothing s p (acts.Revoke keys) e is = absurd (none-some e is)
-acts_detach_nothing s p (acts.Extend file to) e is = maps_never _ _ e (λ x. refl) is
-acts_detach_nothing s p (acts.Release file) e is =
-    maps_never (entries.Released p.at file (length (blocks_in s file) - 1)) (slice_get (blocks_in s file) (length (blocks_in s file) - 1)) e (λ x. refl) is
-acts_detach_nothing s p (acts.Submit piece) e is = absurd (none-some e is)
-acts_detach_nothing s p acts.Poll e is = absurd (none-some e is)
-acts_detach_nothing s p (acts.Access number way) e is =
-    let fd = then_from
-    (λ fd. option_and_then (λ piece. option_map (kernel_entry s p number way fd piece) (descriptor_of s p)) (piece_of_call p.call number))
-    (fd_of p) e is in
-    let piece = then_from (λ piece. option_map (kernel_entry s p number way fd.0 piece) (descriptor_of s p)) (piece_of_call p.call number) e fd.2 in
-    maps_never (kernel_entry s p number way fd.0 piece.0) (descriptor_of s p) e (λ x. refl) piece.2
-acts_detach_nothing s p (acts.Sized size) e is = maps_never (λ fd. entries.Sized p.at fd size) (fd_of p) e (λ x. refl) is
-acts_detach_nothing s p (acts.SizeRead size) e is = maps_never (λ fd. entries.SizeRead p.at fd size) (fd_of p) e (λ x. refl) is
-acts_detach_nothing s p acts.Closed e is = maps_never (entries.Closed p.at) (fd_of p) e (λ x. refl) is
-acts_detach_nothing s p acts.Unlinked e is = maps_never (entries.Unlinked p.at) (file_of s p) e (λ x. refl) is
+    by : (x : Entry) → is_by_no_act x ≡ false → is_detach x ≡ false
+    by (entries.Detached at owner fd part) not_so = not_so
+    by x not_so = refl
 
 -- a processor detaches no right
 pub processors_detach_nothing : (m : State) (p : Place) (e : Entry) → FromAction m p e → is_detach e ≡ false

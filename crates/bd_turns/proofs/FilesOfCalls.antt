@@ -1,5 +1,5 @@
 -- The file of a call stays as entries of any call are added: its descriptor stays open, or its name is still that file's.
-use Rattle.std.proofs.Common.{◌≡◌, ◌≢◌, ℕ, zero, suc, ◌<◌, true, false, List, [], ◌∷◌, ◌++◌, length, arith, Option, None, Some, refl, sym, ap, ◌∙◌, subst, ⊎_elim}
+use Rattle.std.proofs.Common.{◌≡◌, ◌≢◌, ℕ, zero, suc, ◌<◌, Bool, true, false, List, [], ◌∷◌, ◌++◌, length, arith, Option, None, Some, refl, sym, ap, ◌∙◌, subst, ⊎_elim}
 use Rattle.std.specs.Prelude.{is_some, slice_index_or, slice_set}
 use Rattle.std.specs.Option.{option_and_then, option_map, option_map_or}
 use Rattle.std.proofs.lemmas.Bool.{both_ways, cases_eq}
@@ -27,7 +27,7 @@ use Rattle.bd_entry.specs.Refusals.{file_of, file_of_call}
 use Rattle.bd_entry.specs.Rules.{IsOpen, RightFile, place_in}
 use Rattle.bd_entry.specs.RulesOfRights.{HasRightDescriptor, TheDescriptor}
 use Rattle.bd_entry.specs.Store.{Descriptor, Store, Valid, descriptor_at, file_in, in_slot, is_empty_slot, lowest_fd, slots_of, work_of}
-use Rattle.bd_entry.proofs.DescriptorSteps.{after_call-cases, after_change-becomes, after_telling-cases, is_close}
+use Rattle.bd_entry.proofs.DescriptorSteps.{after_call-cases, after_change-becomes, after_telling-cases, is_close, Keeps}
 use Rattle.bd_entry.proofs.EffectsOnFiles.{effect_of-files}
 use Rattle.bd_entry.proofs.Histories.{history-push}
 use Rattle.bd_entry.proofs.HistoryLaws.{histories_keep_valid}
@@ -45,6 +45,34 @@ store_after s call e = effect_of s (place_in s call (at_of e)) e
 abbrev pub RestsOnFile : (Descriptor → Type 0) → Type 0
 RestsOnFile P = (d new : Descriptor) → new.file ≡ d.file → new.mode ≡ d.mode → P d → P new
 
+-- a descriptor that the entry does not close stays so in what its own change keeps
+pub change_kept : (P : Descriptor → Type 0) → ((d new : Descriptor) → Keeps d new → P d → P new) → (s : Store) (call : Call) (e : Entry) →
+    HasRightDescriptor s (place_in s call (at_of e)) e → (process fd : ℕ) → (is_close e ≡ true → process ≢ (at_of e).process) →
+    TheDescriptor (descriptor_at s process fd) P → TheDescriptor (descriptor_at (after_change s e) process fd) P
+change_kept P rests s call e fits process fd stays_open has =
+    ⊎_elim
+    (λ same.
+    TheDescriptor-map P same.0 (λ d is. rests d (same.0 d) (same.1 d) is) (descriptor_at s process fd)
+    (descriptor_at (after_change s e) process fd) same.2 has)
+    (λ others.
+    ⊎_elim
+    (λ new. absurd (none-some has.0 (sym new.0 ∙ has.1)))
+    (λ gone. absurd (stays_open gone.0 gone.1))
+    others)
+    (after_change-becomes s call e fits process fd)
+
+-- and where its size is told
+pub told_kept : (P : Descriptor → Type 0) (changed : Store) → ((d : Descriptor) → P d → P (with_told_size changed d)) → (tells : Bool) (by : ℕ)
+    (of : Option ℕ) (process fd : ℕ) → TheDescriptor (descriptor_at changed process fd) P →
+    TheDescriptor (descriptor_at (after_telling tells changed by of) process fd) P
+told_kept P changed rests tells by of process fd has =
+    let told = after_telling tells changed by of in
+    ⊎_elim
+    (λ same. TheDescriptor-same P (descriptor_at changed process fd) (descriptor_at told process fd) same has)
+    (λ new.
+    TheDescriptor-map P (with_told_size changed) rests (descriptor_at changed process fd) (descriptor_at told process fd) new.2 has)
+    (after_telling-cases tells changed by of process fd)
+
 -- what the entry's own change left so, its call leaves so too
 pub changed_kept : (P : Descriptor → Type 0) → RestsOnFile P → (s : Store) (call : Call) (e : Entry) (process fd : ℕ) →
     TheDescriptor (descriptor_at (after_change s e) process fd) P → TheDescriptor (descriptor_at (store_after s call e) process fd) P
@@ -55,12 +83,7 @@ changed_kept P rests s call e process fd first =
     let told = after_telling (tells_size e) changed (at_of e).process of in
     let after = store_after s call e in
     let second : TheDescriptor (descriptor_at told process fd) P =
-    ⊎_elim
-    (λ same. TheDescriptor-same P (descriptor_at changed process fd) (descriptor_at told process fd) same first)
-    (λ new.
-    TheDescriptor-map P (with_told_size changed) (λ d is. rests d (with_told_size changed d) refl refl is) (descriptor_at changed process fd)
-    (descriptor_at told process fd) new.2 first)
-    (after_telling-cases (tells_size e) changed (at_of e).process of process fd) in
+    told_kept P changed (λ d is. rests d (with_told_size changed d) refl refl is) (tells_size e) (at_of e).process of process fd first in
     ⊎_elim
     (λ same. TheDescriptor-same P (descriptor_at told process fd) (descriptor_at after process fd) same second)
     (λ ended. TheDescriptor-map P with_known_size (λ d is. rests d (with_known_size d) refl refl is) (descriptor_at told process fd)
@@ -72,18 +95,8 @@ pub descriptor_kept : (P : Descriptor → Type 0) → RestsOnFile P → (s : Sto
     (process fd : ℕ) → (is_close e ≡ true → process ≢ (at_of e).process) →
     TheDescriptor (descriptor_at s process fd) P → TheDescriptor (descriptor_at (store_after s call e) process fd) P
 descriptor_kept P rests s call e fits process fd stays_open has =
-    let changed = after_change s e in
     changed_kept P rests s call e process fd
-    (⊎_elim
-    (λ same.
-    TheDescriptor-map P same.0 (λ d is. rests d (same.0 d) (same.1 d).file (same.1 d).mode is) (descriptor_at s process fd)
-    (descriptor_at changed process fd) same.2 has)
-    (λ others.
-    ⊎_elim
-    (λ new. absurd (none-some has.0 (sym new.0 ∙ has.1)))
-    (λ gone. absurd (stays_open gone.0 gone.1))
-    others)
-    (after_change-becomes s call e fits process fd))
+    (change_kept P (λ d new keeps is. rests d new keeps.file keeps.mode is) s call e fits process fd stays_open has)
 
 -- a process that has such a descriptor has a row of them
 row_there : (opens : List (List (Option Descriptor))) (process k : ℕ) → k < length (slice_index_or opens process []) → process < length opens

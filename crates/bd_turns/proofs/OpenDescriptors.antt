@@ -30,6 +30,7 @@ use Rattle.bd_entry.proofs.KnownSizes.{work-grown}
 use Rattle.bd_entry.proofs.RunningCalls.{running_cases, work-other}
 use Rattle.bd_entry.proofs.Slots.{some_of}
 use Rattle.bd_entry.proofs.WriteModes.{TheDescriptor-map, TheDescriptor-same, none_at_start}
+use Rattle.bd_turns.proofs.FilesOfCalls.{changed_kept, descriptor_kept}
 
 -- the descriptor is open
 abbrev IsOpened : Store → ℕ → ℕ → Type 0
@@ -38,37 +39,13 @@ IsOpened s process fd = TheDescriptor (descriptor_at s process fd) (λ d. Unit {
 -- the descriptor is open after an entry where it is after the entry's own change
 opened_after : (s : Store) (call : Call) (e : Entry) (process fd : ℕ) → IsOpened (after_change s e) process fd →
     IsOpened (effect_of s (place_in s call (at_of e)) e) process fd
-opened_after s call e process fd has =
-    let Any : Descriptor → Type 0 = λ d. Unit {0} in
-    let entries = work_of s (at_of e).process ++ e ∷ [] in
-    let of = fd_of_call call entries in
-    let changed = after_change s e in
-    let told = after_telling (tells_size e) changed (at_of e).process of in
-    let after = effect_of s (place_in s call (at_of e)) e in
-    let second : IsOpened told process fd =
-    ⊎_elim
-    (λ same. TheDescriptor-same Any (descriptor_at changed process fd) (descriptor_at told process fd) same has)
-    (λ new.
-    TheDescriptor-map Any (with_told_size changed) (λ d is. tt) (descriptor_at changed process fd) (descriptor_at told process fd) new.2 has)
-    (after_telling-cases (tells_size e) changed (at_of e).process of process fd) in
-    ⊎_elim
-    (λ same. TheDescriptor-same Any (descriptor_at told process fd) (descriptor_at after process fd) same second)
-    (λ new. TheDescriptor-map Any with_known_size (λ d is. tt) (descriptor_at told process fd) (descriptor_at after process fd) new.3 second)
-    (after_call-cases (is_ended_by call entries) told (at_of e).process of entries process fd)
+opened_after s call e process fd has = changed_kept (λ d. Unit {0}) (λ d new file mode is. tt) s call e process fd has
 
 -- an open descriptor stays open after an entry that does not close it
 stays_open : (s : Store) (call : Call) (e : Entry) → HasRightDescriptor s (place_in s call (at_of e)) e → (process fd : ℕ) →
     (is_close e ≡ true → process ≢ (at_of e).process) → IsOpened s process fd → IsOpened (effect_of s (place_in s call (at_of e)) e) process fd
 stays_open s call e fits process fd other has =
-    opened_after s call e process fd
-    (⊎_elim
-    (λ same. TheDescriptor-map (λ d. Unit {0}) same.0 (λ d is. tt) (descriptor_at s process fd) (descriptor_at (after_change s e) process fd) same.2 has)
-    (λ others.
-    ⊎_elim
-    (λ new. absurd (none-some has.0 (sym new.0 ∙ has.1)))
-    (λ gone. absurd (other gone.0 gone.1))
-    others)
-    (after_change-becomes s call e fits process fd))
+    descriptor_kept (λ d. Unit {0}) (λ d new file mode is. tt) s call e fits process fd other has
 
 -- the descriptor that an open takes is open after it
 opens : (s : Store) (process fd : ℕ) (d : Descriptor) → lowest_fd s process ≡ Some fd → IsOpened (with_slot s process fd (Some d)) process fd

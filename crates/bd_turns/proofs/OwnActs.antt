@@ -146,44 +146,59 @@ revokes_just s holders r call all keys is =
     (λ revoking. ap keys_in revoking)
     (own_or_revoke all (own_act s holders r call) (acts.Revoke keys) is)
 
--- ---- the entry of an own act clears nothing
+-- ---- the entry of an own act
 
-opened_clears_not : (p : Place) (call : Call) (file fd : ℕ) → Fails is_clear (opened_entry p call file fd)
-opened_clears_not p (Enter name mode how) file fd = refl
-opened_clears_not p call file fd = refl
+-- whether no act of a call adds the entry: it clears or detaches a right, or notes what a walk found
+abbrev pub is_by_no_act : Entry → Bool
+is_by_no_act (entries.Cleared at owner fd part) = true
+is_by_no_act (entries.Detached at owner fd part) = true
+is_by_no_act (entries.Missed at piece found) = true
+is_by_no_act e = false
 
-created_clears_not : (s : Store) (p : Place) (call : Call) → Fails is_clear (created_entry s p call)
-created_clears_not s p (Create name perms) =
-    fails-map is_clear (λ file. entries.Created p.at file name perms) (free_id s.files) (λ file. refl)
-created_clears_not s p call = refl
+opened_by_act : (p : Place) (call : Call) (file fd : ℕ) → Fails is_by_no_act (opened_entry p call file fd)
+opened_by_act p (Enter name mode how) file fd = refl
+opened_by_act p call file fd = refl
 
-accessing : (s : Store) (p : Place) (number : ℕ) (way : Way) → Fails is_clear (access_entry s p number way)
+created_by_act : (s : Store) (p : Place) (call : Call) → Fails is_by_no_act (created_entry s p call)
+created_by_act s p (Create name perms) =
+    fails-map is_by_no_act (λ file. entries.Created p.at file name perms) (free_id s.files) (λ file. refl)
+created_by_act s p call = refl
+
+accessing : (s : Store) (p : Place) (number : ℕ) (way : Way) → Fails is_by_no_act (access_entry s p number way)
 accessing s p number way =
     let by_fd : ℕ → Option Entry =
     λ fd. option_and_then (λ piece. option_map (kernel_entry s p number way fd piece) (descriptor_of s p)) (piece_of_call p.call number) in
-    fails-then is_clear by_fd (fd_of p)
+    fails-then is_by_no_act by_fd (fd_of p)
     (λ fd.
-    fails-then is_clear (λ piece. option_map (kernel_entry s p number way fd piece) (descriptor_of s p)) (piece_of_call p.call number)
-    (λ piece. fails-map is_clear (kernel_entry s p number way fd piece) (descriptor_of s p) (λ d. refl)))
+    fails-then is_by_no_act (λ piece. option_map (kernel_entry s p number way fd piece) (descriptor_of s p)) (piece_of_call p.call number)
+    (λ piece. fails-map is_by_no_act (kernel_entry s p number way fd piece) (descriptor_of s p) (λ d. refl)))
 
-act_clears_not : (s : Store) (p : Place) (act : Act) → Fails is_clear (entry_of_act s p act)
-act_clears_not s p (acts.Busy file holder) = refl
-act_clears_not s p (acts.Refuse piece reason) = refl
-act_clears_not s p (acts.Opened file fd) = opened_clears_not p p.call file fd
-act_clears_not s p acts.Created = created_clears_not s p p.call
-act_clears_not s p (acts.Attach part) = fails-map is_clear (λ fd. entries.Attached p.at fd part) (fd_of p) (λ fd. refl)
-act_clears_not s p (acts.Mapped count) = fails-map is_clear (λ fd. entries.Mapped p.at fd count) (fd_of p) (λ fd. refl)
-act_clears_not s p (acts.Revoke keys) = refl
-act_clears_not s p (acts.Extend file to) =
-    fails-map is_clear (λ (f : Inode). entries.Extended p.at file to (growth_block s.total s.files f)) (file_in s file) (λ f. refl)
-act_clears_not s p (acts.Release file) = fails-map is_clear _ (slice_get (blocks_in s file) _) (λ block. refl)
-act_clears_not s p (acts.Submit piece) = refl
-act_clears_not s p acts.Poll = refl
-act_clears_not s p (acts.Access number way) = accessing s p number way
-act_clears_not s p (acts.Sized size) = fails-map is_clear (λ fd. entries.Sized p.at fd size) (fd_of p) (λ fd. refl)
-act_clears_not s p (acts.SizeRead size) = fails-map is_clear (λ fd. entries.SizeRead p.at fd size) (fd_of p) (λ fd. refl)
-act_clears_not s p acts.Closed = fails-map is_clear (entries.Closed p.at) (fd_of p) (λ fd. refl)
-act_clears_not s p acts.Unlinked = fails-map is_clear (entries.Unlinked p.at) (file_of s p) (λ file. refl)
+act_adds : (s : Store) (p : Place) (act : Act) → Fails is_by_no_act (entry_of_act s p act)
+act_adds s p (acts.Busy file holder) = refl
+act_adds s p (acts.Refuse piece reason) = refl
+act_adds s p (acts.Opened file fd) = opened_by_act p p.call file fd
+act_adds s p acts.Created = created_by_act s p p.call
+act_adds s p (acts.Attach part) = fails-map is_by_no_act (λ fd. entries.Attached p.at fd part) (fd_of p) (λ fd. refl)
+act_adds s p (acts.Mapped count) = fails-map is_by_no_act (λ fd. entries.Mapped p.at fd count) (fd_of p) (λ fd. refl)
+act_adds s p (acts.Revoke keys) = refl
+act_adds s p (acts.Extend file to) =
+    fails-map is_by_no_act (λ (f : Inode). entries.Extended p.at file to (growth_block s.total s.files f)) (file_in s file) (λ f. refl)
+act_adds s p (acts.Release file) = fails-map is_by_no_act _ (slice_get (blocks_in s file) _) (λ block. refl)
+act_adds s p (acts.Submit piece) = refl
+act_adds s p acts.Poll = refl
+act_adds s p (acts.Access number way) = accessing s p number way
+act_adds s p (acts.Sized size) = fails-map is_by_no_act (λ fd. entries.Sized p.at fd size) (fd_of p) (λ fd. refl)
+act_adds s p (acts.SizeRead size) = fails-map is_by_no_act (λ fd. entries.SizeRead p.at fd size) (fd_of p) (λ fd. refl)
+act_adds s p acts.Closed = fails-map is_by_no_act (entries.Closed p.at) (fd_of p) (λ fd. refl)
+act_adds s p acts.Unlinked = fails-map is_by_no_act (entries.Unlinked p.at) (file_of s p) (λ file. refl)
 
+pub adds_by_act : (s : Store) (p : Place) (act : Act) (e : Entry) → entry_of_act s p act ≡ Some e → is_by_no_act e ≡ false
+adds_by_act s p act e is = fails-some is_by_no_act (entry_of_act s p act) e (act_adds s p act) is
+
+-- so it clears no right
 pub clears_not : (s : Store) (p : Place) (act : Act) (e : Entry) → entry_of_act s p act ≡ Some e → is_clear e ≡ false
-clears_not s p act e is = fails-some is_clear (entry_of_act s p act) e (act_clears_not s p act) is
+clears_not s p act e is = by e (adds_by_act s p act e is)
+  where
+    by : (x : Entry) → is_by_no_act x ≡ false → is_clear x ≡ false
+    by (entries.Cleared at owner fd part) not_so = not_so
+    by x not_so = refl

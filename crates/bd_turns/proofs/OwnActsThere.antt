@@ -153,6 +153,12 @@ module _ (s : Store) (holders : Holders) (at : At) (before : List Entry) (outsta
       let r = running (Truncate fd size) at before outstanding in IsDoable s r (truncate_to s r.place size d.file)
   truncation_act fd size d valid is = shrinks (is_to_shrink s d.file size) refl
     where
+      growth : Option ℕ → Act
+      growth o =
+          option_map_or
+          (λ to. option_map_or (acts.Refuse None) (growth_reason_of s (running (Truncate fd size) at before outstanding).place size) (acts.Extend d.file to))
+          o (acts.Sized size)
+
       grow : (to : ℕ) (o : Option Reason) →
           IsDoable s (running (Truncate fd size) at before outstanding) (option_map_or (acts.Refuse None) o (acts.Extend d.file to))
       grow to None =
@@ -161,18 +167,13 @@ module _ (s : Store) (holders : Holders) (at : At) (before : List Entry) (outsta
           adds (acts.Extend d.file to) (entry f.0) (ap (option_map entry) f.1)
       grow to (Some reason) = adds (acts.Refuse None reason) (entries.Refused at None reason) refl
 
-      grows : (o : Option ℕ) →
-          IsDoable s (running (Truncate fd size) at before outstanding)
-          (option_map_or (λ to. option_map_or (acts.Refuse None) (growth_reason_of s (running (Truncate fd size) at before outstanding).place size) (acts.Extend d.file to))
-          o (acts.Sized size))
+      grows : (o : Option ℕ) → IsDoable s (running (Truncate fd size) at before outstanding) (growth o)
       grows None = adds (acts.Sized size) (entries.Sized at fd size) refl
       grows (Some to) = grow to (growth_reason_of s (running (Truncate fd size) at before outstanding).place size)
 
       shrinks : (b : Bool) → is_to_shrink s d.file size ≡ b →
           IsDoable s (running (Truncate fd size) at before outstanding)
-          (cond b (acts.Release d.file)
-          (option_map_or (λ to. option_map_or (acts.Refuse None) (growth_reason_of s (running (Truncate fd size) at before outstanding).place size) (acts.Extend d.file to))
-          (next_size (size_in s d.file) size) (acts.Sized size)))
+          (cond b (acts.Release d.file) (growth (next_size (size_in s d.file) size)))
       shrinks true is =
           let parts = and_parts (nat_lt size (size_in s d.file)) (nat_lt (blocks_for size) (length (blocks_in s d.file))) is in
           let more : blocks_for size < length (blocks_in s d.file) = ltb-true (blocks_for size) (length (blocks_in s d.file)) parts.1 in

@@ -44,7 +44,7 @@ use Rattle.bd_turns.proofs.EffectiveTurns.{has_ended-by_end}
 use Rattle.bd_turns.proofs.EntriesOfCalls.{added_made}
 use Rattle.bd_turns.proofs.FilesOfCalls.{store_after}
 use Rattle.bd_turns.proofs.GrowthTurns.{growth-most, growth_falls, pieces_end}
-use Rattle.bd_turns.proofs.OwnActs.{Fails, fails-map, fails-some, fails-then}
+use Rattle.bd_turns.proofs.OwnActs.{Fails, fails-map, fails-some, fails-then, adds_by_act, is_by_no_act}
 use Rattle.bd_turns.proofs.PieceOwn.{PiecesFall}
 use Rattle.bd_turns.proofs.PieceTurns.{after, kernel_falls, kernel_grows, some_unanswered, untouched_less}
 use Rattle.bd_turns.proofs.PiecesThere.{not_all}
@@ -59,48 +59,18 @@ abbrev is_missed : Entry → Bool
 is_missed (entries.Missed at piece found) = true
 is_missed e = false
 
-opened_misses_not : (p : Place) (call : Call) (file fd : ℕ) → Fails is_missed (opened_entry p call file fd)
-opened_misses_not p (Enter name mode how) file fd = refl
-opened_misses_not p call file fd = refl
-
-created_misses_not : (s : Store) (p : Place) (call : Call) → Fails is_missed (created_entry s p call)
-created_misses_not s p (Create name perms) =
-    fails-map is_missed (λ file. entries.Created p.at file name perms) (free_id s.files) (λ file. refl)
-created_misses_not s p call = refl
-
-access_misses_not : (s : Store) (p : Place) (number : ℕ) (way : Way) → Fails is_missed (access_entry s p number way)
-access_misses_not s p number way =
-    let by_fd : ℕ → Option Entry =
-    λ fd. option_and_then (λ piece. option_map (kernel_entry s p number way fd piece) (descriptor_of s p)) (piece_of_call p.call number) in
-    fails-then is_missed by_fd (fd_of p)
-    (λ fd.
-    fails-then is_missed (λ piece. option_map (kernel_entry s p number way fd piece) (descriptor_of s p)) (piece_of_call p.call number)
-    (λ piece. fails-map is_missed (kernel_entry s p number way fd piece) (descriptor_of s p) (λ d. refl)))
-
-act_misses_not : (s : Store) (p : Place) (act : Act) → Fails is_missed (entry_of_act s p act)
-act_misses_not s p (acts.Busy file holder) = refl
-act_misses_not s p (acts.Refuse piece reason) = refl
-act_misses_not s p (acts.Opened file fd) = opened_misses_not p p.call file fd
-act_misses_not s p acts.Created = created_misses_not s p p.call
-act_misses_not s p (acts.Attach part) = fails-map is_missed (λ fd. entries.Attached p.at fd part) (fd_of p) (λ fd. refl)
-act_misses_not s p (acts.Mapped count) = fails-map is_missed (λ fd. entries.Mapped p.at fd count) (fd_of p) (λ fd. refl)
-act_misses_not s p (acts.Revoke keys) = refl
-act_misses_not s p (acts.Extend file to) =
-    fails-map is_missed (λ (f : Inode). entries.Extended p.at file to (growth_block s.total s.files f)) (file_in s file) (λ f. refl)
-act_misses_not s p (acts.Release file) = fails-map is_missed _ (slice_get (blocks_in s file) _) (λ block. refl)
-act_misses_not s p (acts.Submit piece) = refl
-act_misses_not s p acts.Poll = refl
-act_misses_not s p (acts.Access number way) = access_misses_not s p number way
-act_misses_not s p (acts.Sized size) = fails-map is_missed (λ fd. entries.Sized p.at fd size) (fd_of p) (λ fd. refl)
-act_misses_not s p (acts.SizeRead size) = fails-map is_missed (λ fd. entries.SizeRead p.at fd size) (fd_of p) (λ fd. refl)
-act_misses_not s p acts.Closed = fails-map is_missed (entries.Closed p.at) (fd_of p) (λ fd. refl)
-act_misses_not s p acts.Unlinked = fails-map is_missed (entries.Unlinked p.at) (file_of s p) (λ file. refl)
+act_misses_not : (s : Store) (p : Place) (act : Act) (e : Entry) → entry_of_act s p act ≡ Some e → is_missed e ≡ false
+act_misses_not s p act e is = by e (adds_by_act s p act e is)
+  where
+    by : (x : Entry) → is_by_no_act x ≡ false → is_missed x ≡ false
+    by (entries.Missed at piece found) not_so = not_so
+    by x not_so = refl
 
 processors_miss_not : (m : State) (p : Place) (row : Row) (e : Entry) → next_action m p ≡ Some (processors.Adds row e) → is_missed e ≡ false
 processors_miss_not m p row e acting =
     let found = then_from (action_for m p) (next_act m.store (holder_of m) (running_of m p)) (processors.Adds row e) acting in
     ⊎_elim
-    (λ own. fails-some is_missed (entry_of_act m.store p found.0) e (act_misses_not m.store p found.0) own.0)
+    (λ own. act_misses_not m.store p found.0 e own.0)
     (λ revoking. ap is_missed (revokes-adds m p revoking.0 row e revoking.2).entry_is)
     (adds_for m p found.0 row e found.2)
 

@@ -30,6 +30,7 @@ use Rattle.bd_entry.proofs.DescriptorSteps.{Becomes, after_call-cases, after_cha
 use Rattle.bd_entry.proofs.WriteModes.{TheDescriptor-map, TheDescriptor-same}
 use Rattle.bd_turns.proofs.CommandsInHand.{GoesDirectBy, goes_there}
 use Rattle.bd_turns.proofs.UnfinishedCalls.{untold_unfinished}
+use Rattle.bd_turns.proofs.FilesOfCalls.{change_kept, changed_kept, told_kept}
 
 -- ---- entries that end their calls
 
@@ -94,23 +95,9 @@ use_stays P rests s call e fits process fd stays_open goes_on has =
     let told = after_telling (tells_size e) changed (at_of e).process of in
     let after = effect_of s (place_in s call (at_of e)) e in
     let first : TheDescriptor (descriptor_at changed process fd) P =
-    ⊎_elim
-    (λ same.
-    TheDescriptor-map P same.0 (λ d is. rests d (same.0 d) (same.1 d).how (same.1 d).known is) (descriptor_at s process fd)
-    (descriptor_at changed process fd) same.2 has)
-    (λ others.
-    ⊎_elim
-    (λ new. absurd (none-some has.0 (sym new.0 ∙ has.1)))
-    (λ gone. absurd (stays_open gone.0 gone.1))
-    others)
-    (after_change-becomes s call e fits process fd) in
+    change_kept P (λ d new keeps is. rests d new keeps.how keeps.known is) s call e fits process fd stays_open has in
     let second : TheDescriptor (descriptor_at told process fd) P =
-    ⊎_elim
-    (λ same. TheDescriptor-same P (descriptor_at changed process fd) (descriptor_at told process fd) same first)
-    (λ new.
-    TheDescriptor-map P (with_told_size changed) (λ d is. rests d (with_told_size changed d) refl refl is) (descriptor_at changed process fd)
-    (descriptor_at told process fd) new.2 first)
-    (after_telling-cases (tells_size e) changed (at_of e).process of process fd) in
+    told_kept P changed (λ d is. rests d (with_told_size changed d) refl refl is) (tells_size e) (at_of e).process of process fd first in
     ⊎_elim
     (λ same. TheDescriptor-same P (descriptor_at told process fd) (descriptor_at after process fd) same second)
     (λ ended. absurd (goes_on ended.2 ended.0))
@@ -158,25 +145,7 @@ pub file_stays : (s : Store) (call : Call) (e : Entry) → HasRightDescriptor s 
     (process fd file : ℕ) → LeavesOpen e process fd → TheDescriptor (descriptor_at s process fd) (IsOf file) →
     TheDescriptor (descriptor_at (effect_of s (place_in s call (at_of e)) e) process fd) (IsOf file)
 file_stays s call e fits process fd file leaves has =
-    let entries = work_of s (at_of e).process ++ e ∷ [] in
-    let of = fd_of_call call entries in
-    let changed = after_change s e in
-    let told = after_telling (tells_size e) changed (at_of e).process of in
-    let after = effect_of s (place_in s call (at_of e)) e in
-    let first = file_changed s call e fits process fd file leaves has in
-    let second : TheDescriptor (descriptor_at told process fd) (IsOf file) =
-    ⊎_elim
-    (λ same. TheDescriptor-same (IsOf file) (descriptor_at changed process fd) (descriptor_at told process fd) same first)
-    (λ new.
-    TheDescriptor-map (IsOf file) (with_told_size changed) (λ d is. is) (descriptor_at changed process fd)
-    (descriptor_at told process fd) new.2 first)
-    (after_telling-cases (tells_size e) changed (at_of e).process of process fd) in
-    ⊎_elim
-    (λ same. TheDescriptor-same (IsOf file) (descriptor_at told process fd) (descriptor_at after process fd) same second)
-    (λ ended.
-    TheDescriptor-map (IsOf file) with_known_size (λ d is. is) (descriptor_at told process fd)
-    (descriptor_at after process fd) ended.3 second)
-    (after_call-cases (is_ended_by call entries) told (at_of e).process of entries process fd)
+    changed_kept (IsOf file) (λ d new same mode is. same ∙ is) s call e process fd (file_changed s call e fits process fd file leaves has)
 
 -- ---- pieces for the device
 
