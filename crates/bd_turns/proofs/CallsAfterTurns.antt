@@ -14,7 +14,7 @@ use Rattle.bd_entry.specs.Calls.{Place, at_of, call_at, entries_of, is_ended_by,
 use Rattle.bd_entry.proofs.CallOrder.{entries_of-joined, entries_of-other, other_process, same_self}
 use Rattle.bd_entry.proofs.HistoryLaws.{process_there}
 use Rattle.bd_turns.proofs.Cases.{running_process}
-pub use Rattle.bd_turns.proofs.RunningPlaces.{RunsAt, runs_at}
+use Rattle.bd_turns.proofs.RunningPlaces.{RunsAt, runs_at}
 use Rattle.bd_turns.specs.Sound.{AreCallsSound, HasProcesses}
 use Rattle.bd_turns.specs.State.{Progress, State, has_ended, outstanding, place_of, progress_of, running, running_at, with_progress}
 use Rattle.bd_turns.specs.Turns.{after_effect, with_call_ended, with_turn_used}

@@ -13,7 +13,7 @@ use Rattle.bd_entry.specs.declared.entry.Entry.TheVariants as entries
 use Rattle.bd_entry.specs.Actions.{has_begun, is_none_of}
 use Rattle.bd_entry.specs.Calls.{Place, at_of, is_end_of, is_ended_by, pieces_of_call}
 use Rattle.bd_entry.specs.Effects.{effect_of}
-use Rattle.bd_entry.specs.Promises.{is_whole_refusal}
+use Rattle.bd_entry.specs.Promises.{is_whole_refusal, is_access_or_miss}
 use Rattle.bd_entry.specs.Refusals.{file_of, first_refusal}
 use Rattle.bd_entry.specs.Rules.{place_in}
 use Rattle.bd_entry.specs.Store.{Store}
@@ -31,7 +31,7 @@ use Rattle.bd_turns.specs.Turns.{after_adding, after_effect, after_ending, after
 use Rattle.bd_turns.proofs.StayingDescriptors.{ended_by_end, whole_ends}
 use Rattle.bd_turns.proofs.ActionsOfCalls.{Ahead, AloneOn, ahead, no_commands, passed-allowed, passed-alone, throughout-no_pieces}
 use Rattle.bd_turns.proofs.CallsAfterTurns.{Follows, Prepares, follows, runs_within}
-use Rattle.bd_turns.proofs.EngineSteps.{is_of_device, step_keeps}
+use Rattle.bd_turns.proofs.StepsLeave.{step_keeps}
 use Rattle.bd_turns.proofs.EntriesOfCalls.{alone_adding, needs_hold, passed-file}
 use Rattle.bd_turns.proofs.FilesOfCalls.{store_after}
 
@@ -274,7 +274,7 @@ module _ (v : Volume) (m : State) (reached : IsReached v m) (p : Place) (runs : 
       }
 
   -- an entry of a device needs no hold, and no call that holds its file throughout makes it
-  device_needs_not : (e : Entry) → is_of_device e ≡ true → needs_hold e ≡ true → ⊥
+  device_needs_not : (e : Entry) → is_access_or_miss e ≡ true → needs_hold e ≡ true → ⊥
   device_needs_not (entries.Access at piece fd file index block range wrote way bytes) device needs = false≢true needs
   device_needs_not (entries.Missed at piece found) device needs = false≢true needs
   device_needs_not e device needs = false≢true device

@@ -28,7 +28,7 @@ use Rattle.bd_tables.specs.State.{TableState, engines_in}
 use Rattle.bd_turns.proofs.Cases.{Effective, Leads, turn_leads}
 use Rattle.bd_turns.proofs.ClearingCalls.{clears_key}
 use Rattle.bd_turns.proofs.DoneTurns.{IsDone, grown}
-use Rattle.bd_turns.proofs.EngineStepsOfCalls.{at_none, step_access, step_all, step_commands, step_ended, step_held, step_is}
+use Rattle.bd_turns.proofs.CommandsOfSteps.{at_none, step_access, step_all, step_commands, step_ended, step_held, step_is}
 use Rattle.bd_turns.proofs.HandsOfSteps.{entry_processes, entry_script}
 use Rattle.bd_turns.proofs.GrowingHistories.{history_kept}
 use Rattle.bd_turns.proofs.KeptCommands.{no_commands}

@@ -38,8 +38,8 @@ use Rattle.bd_turns.specs.Sound.{AreBegunHolding, AreCallsSound, AreHoldsSound, 
 use Rattle.bd_turns.specs.State.{State, holder_of, running}
 use Rattle.bd_turns.specs.Turns.{holds_throughout}
 use Rattle.bd_turns.proofs.ActionsOfCalls.{Ahead, AloneOn, IsPassed, adds_for, ahead, alone_tested, empty-unbegun, no_commands, passed-alone, throughout-no_pieces, unbegun_passed}
-use Rattle.bd_turns.proofs.CallsAfterTurns.{runs_at}
 use Rattle.bd_turns.proofs.Revocations.{revokes-adds}
+use Rattle.bd_turns.proofs.RunningPlaces.{runs_at}
 
 -- ---- entries of calls that hold their file
 

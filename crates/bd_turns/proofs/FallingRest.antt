@@ -14,12 +14,12 @@ use Rattle.bd_turns.specs.Reached.{IsReached}
 use Rattle.bd_turns.specs.Rest.{AreWithinTurns, turns_left}
 use Rattle.bd_turns.specs.State.{Progress, State, new_progress, progress_of, running}
 use Rattle.bd_turns.specs.Turns.{Acting, LowersRest, Nothing, Outcome, Waiting, answer_in, outcome_of, process_count, rest_of, state_after, turns_per_call}
-use Rattle.bd_turns.proofs.CallsAfterTurns.{runs_at}
 use Rattle.bd_turns.proofs.Cases.{Effective}
 use Rattle.bd_turns.proofs.EffectiveOutcomes.{IsOfKind, outcomes_are_of_kinds}
 use Rattle.bd_turns.proofs.SpentTurns.{Spends, effective_spends}
 use Rattle.bd_turns.proofs.Sums.{changed_sum, sum_at, sum_below_by, sum_from, sum_times}
 use Rattle.bd_turns.specs.Progress.{RestFalls}
+use Rattle.bd_turns.proofs.RunningPlaces.{runs_at}
 
 -- how many calls of a process have not ended, and how many turns were used of the running one
 abbrev open_calls : Script → State → ℕ → ℕ

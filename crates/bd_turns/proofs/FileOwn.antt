@@ -45,7 +45,6 @@ use Rattle.bd_turns.specs.Turns.{after_adding, grown_tables, tables_after, with_
 use Rattle.bd_turns.proofs.ActionsOfCalls.{no_commands}
 use Rattle.bd_turns.proofs.AddedEntries.{is_detach}
 use Rattle.bd_turns.proofs.AttachTurns.{attach_falls, part_bound}
-use Rattle.bd_turns.proofs.CallsAfterTurns.{runs_at}
 use Rattle.bd_turns.proofs.EffectiveTurns.{has_ended-by_end}
 use Rattle.bd_turns.proofs.EntriesOfCalls.{added_made}
 use Rattle.bd_turns.proofs.FilesOfCalls.{store_after, valid_after}
@@ -54,6 +53,7 @@ use Rattle.bd_turns.proofs.OwnRevocations.{Falls, by-passes, clear_falls, on_fil
 use Rattle.bd_turns.proofs.PieceTurns.{after}
 use Rattle.bd_turns.proofs.RevocationTurns.{revocation_rises_not, stay_rises_not}
 use Rattle.bd_turns.proofs.SizesAfter.{extended_size, released_blocks, released_size}
+use Rattle.bd_turns.proofs.RunningPlaces.{runs_at}
 
 -- the call has fewer turns left after these entries, on its file
 abbrev pub OwnFalls : State → State → Place → List Entry → Option ℕ → Type 0

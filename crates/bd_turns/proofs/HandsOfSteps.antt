@@ -22,7 +22,7 @@ use Rattle.bd_turns.specs.Sound.{IsIdleWithout, IsWalkAt, IsWalkFor}
 use Rattle.bd_turns.specs.State.{InHand, Phase, Looking, Filling, Moving, Missing, Retiring, Completing, Progress, State, new_progress, progress_of, running, with_progress}
 use Rattle.bd_turns.specs.Turns.{after_step, with_entry_if_any}
 use Rattle.bd_turns.proofs.Cases.{running_process}
-use Rattle.bd_turns.proofs.EngineStepsOfTables.{IsStep, enters, looks, reads, fills, moves, misses, retires, completes}
+use Rattle.bd_turns.proofs.EngineSteps.{IsStep, enters, looks, reads, fills, moves, misses, retires, completes}
 use Rattle.bd_turns.proofs.HandFrames.{IsSameCall, ended_after_effect, hands_after_effect, progress_here, progress_other, runs_still}
 use Rattle.bd_turns.proofs.HandsKept.{AreWalking, same_request_of, walk_at_same, walks_still}
 use Rattle.bd_turns.proofs.TablesOfSteps.{request_process, walk_of}

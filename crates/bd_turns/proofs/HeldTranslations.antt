@@ -19,6 +19,7 @@ use Rattle.bd_turns.specs.State.{Completed, InHand, Phase, Looking, Reading, Fil
 use Rattle.bd_turns.proofs.Cases.{running_process}
 use Rattle.bd_turns.proofs.CellsOfGrowth.{cell_if, cell_of_block-is}
 use Rattle.bd_turns.proofs.LinesKept.{request_of_part}
+use Rattle.bd_turns.proofs.StepsLeave.{hand_outstanding}
 
 -- ---- the requests of engines
 
@@ -37,18 +38,6 @@ same_request Retiring request tables process other at is =
     at
 same_request Completing request tables process other at is = absurd (none-some other (sym (ap request_of at) ∙ is))
 
--- a process with a command in its engine's hand has one outstanding
-some_outstanding : (progress : Progress) (hand : InHand) → progress.hand ≡ Some hand → outstanding progress ≡ [] → ⊥
-some_outstanding progress hand in_hand none =
-    by (map (λ (done : Completed). done.piece) progress.completed)
-    (sym (ap (λ (slot : Option InHand).
-    map (λ (done : Completed). done.piece) progress.completed ++ pieces_in_hand slot ++ progress.submitted) in_hand)
-    ∙ none)
-  where
-    by : (completed : List ℕ) → completed ++ (hand.piece ∷ []) ++ progress.submitted ≡ [] → ⊥
-    by [] is = let no : hand.piece ∷ progress.submitted ≡ [] = is in cc
-    by (x ∷ xs) is = let no : x ∷ (xs ++ (hand.piece ∷ []) ++ progress.submitted) ≡ [] = is in cc
-
 -- an engine in a key walks for a block of that key's part
 walks_in_part : (v : Volume) (m : State) (process : ℕ) (request : Request) → IsReached v m → request_of (walk_at m.tables.walks process) ≡ Some request →
     request.index / PART_BLOCKS ≡ request.key.part
@@ -59,7 +48,7 @@ walks_in_part v m process request reached is = by (progress_of m process).hand r
     by None none place running_is =
         absurd (none-some request (sym (ap request_of (reached.sound.tables_are.idle process none)) ∙ is))
     by (Some hand) in_hand None none =
-        absurd (some_outstanding (progress_of m process) hand in_hand (reached.sound.calls.commands.none process none))
+        absurd (hand_outstanding (progress_of m process) hand in_hand (reached.sound.calls.commands.none process none))
     by (Some hand) in_hand (Some p) running_is =
         let walks = reached.sound.tables_are.hands process p hand running_is in_hand in
         let here : request_of (walk_at m.tables.walks p.at.process) ≡ Some request =

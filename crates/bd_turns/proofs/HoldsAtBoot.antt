@@ -18,8 +18,8 @@ use Rattle.bd_turns.specs.Processors.{running_of}
 use Rattle.bd_turns.specs.Sound.{AreHoldsSound, is_clear, is_release}
 use Rattle.bd_turns.specs.State.{Progress, State, boot_state, new_progress, outstanding, progress_of, running}
 use Rattle.bd_turns.proofs.ActionsOfCalls.{empty-unbegun, held_from}
-use Rattle.bd_turns.proofs.CallsAfterTurns.{runs_at}
 use Rattle.bd_turns.specs.Rest.{AreWithinTurns}
+use Rattle.bd_turns.proofs.RunningPlaces.{runs_at}
 
 -- no process has begun
 pub all_new : (processes : List Process) (q : ℕ) → let new : Process → Progress = λ p. new_progress in

@@ -19,7 +19,7 @@ use Rattle.bd_turns.proofs.ActionsOfCalls.{ahead}
 use Rattle.bd_turns.proofs.Cases.{Effective, Leads, acts, adds, changes, ends, polls, posts, stays, steps, submits, turn_leads}
 use Rattle.bd_turns.proofs.EffectiveTurns as turned
 use Rattle.bd_turns.proofs.EffectiveTurns.{Turned}
-use Rattle.bd_turns.proofs.EngineSteps.{step_keeps}
+use Rattle.bd_turns.proofs.StepsLeave.{step_keeps}
 use Rattle.bd_turns.proofs.EntriesOfCalls.{needs_hold}
 use Rattle.bd_turns.proofs.HoldsAfterTurns as holding
 use Rattle.bd_turns.proofs.Invalidations.{change_moves, end_detaches, posts_unposted}

@@ -34,10 +34,10 @@ use Rattle.bd_turns.specs.Sound.{ArePosted, is_clear_at, is_revoked}
 use Rattle.bd_turns.specs.State.{Posted, State, holder_of, place_of, progress_of, running}
 use Rattle.bd_turns.specs.Turns.{posting_place}
 use Rattle.bd_turns.proofs.ActionsOfCalls.{Ahead, ahead}
-use Rattle.bd_turns.proofs.CallsAfterTurns.{runs_at}
 use Rattle.bd_turns.proofs.OwnActs.{revokes_just}
 use Rattle.bd_turns.proofs.Revocations.{revokes-posts}
 use Rattle.bd_turns.proofs.RightsAfterTurns.{Changes, IsFront, SetsAt, detaches, moves, other_keys, state_set}
+use Rattle.bd_turns.proofs.RunningPlaces.{runs_at}
 
 -- ---- the request at the front
 

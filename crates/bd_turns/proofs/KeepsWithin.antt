@@ -36,16 +36,16 @@ use Rattle.bd_turns.specs.Sound.{is_clear_at, is_revoked, is_told}
 use Rattle.bd_turns.specs.State.{Completed, Posted, Progress, State, has_ended, outstanding, pieces_in_hand, progress_of, running}
 use Rattle.bd_turns.specs.Turns.{after_adding, after_effect, after_ending, after_polling, after_posting, after_step, after_submitting, after_turn, holds_throughout, posting_place, with_entry_if_any, with_hold}
 use Rattle.bd_turns.proofs.ActionsOfCalls.{ahead, empty-unbegun, no_commands, passed-alone, throughout-no_pieces}
-use Rattle.bd_turns.proofs.CallsAfterTurns.{GoesOn, runs_at}
+use Rattle.bd_turns.proofs.CallsAfterTurns.{GoesOn}
 use Rattle.bd_turns.proofs.CallsGoOn.{create_ends, size_ends}
 use Rattle.bd_turns.proofs.Cases.{Effective, Leads, acts, adds, changes, ends, polls, posts, stays, steps, submits, turn_leads}
 use Rattle.bd_turns.proofs.EffectiveTurns as turned
 use Rattle.bd_turns.proofs.EffectiveTurns.{Turned, has_ended-by_end}
-use Rattle.bd_turns.proofs.EngineSteps.{step_keeps}
+use Rattle.bd_turns.proofs.StepsLeave.{step_keeps}
 use Rattle.bd_turns.proofs.EntriesOfCalls.{added_made, cleared_by, clears-throughout, needs_hold}
 use Rattle.bd_turns.proofs.FileOwn as files
 use Rattle.bd_turns.proofs.FileOwn.{OwnFalls, has_pieces, no_pieces_of, revoking_falls, some_pieces}
-use Rattle.bd_turns.proofs.EngineStepsOfCalls.{step_is}
+use Rattle.bd_turns.proofs.CommandsOfSteps.{step_is}
 use Rattle.bd_turns.proofs.FoundElements.{find-element}
 use Rattle.bd_turns.proofs.Invalidations.{change_moves, end_detaches, posts_unposted}
 use Rattle.bd_turns.proofs.KeysToRevoke.{MayRevoke, revocable}
@@ -62,6 +62,7 @@ use Rattle.bd_turns.proofs.StepTurns.{steps_fall}
 use Rattle.bd_turns.proofs.TurnBounds.{file_call_few, pieces_few}
 use Rattle.bd_turns.proofs.WithinAfterTurns.{FallsOn, Takes, kept_within, unbegun-nothing}
 use Rattle.bd_turns.proofs.Columns.{TurnsKeepWithin}
+use Rattle.bd_turns.proofs.RunningPlaces.{runs_at}
 
 -- ---- calls that have begun
 

@@ -14,7 +14,7 @@ pub mod OpenDescriptors
 pub mod CallsGoOn
 pub mod EffectiveTurns
 pub mod EndsOfRevocations
-pub mod EngineSteps
+pub mod StepsLeave
 pub mod EntriesOfCalls
 pub mod FilesOfCalls
 pub mod Growing
@@ -64,7 +64,7 @@ pub mod CommandSteps
 pub mod EngineCommands
 pub mod TurnsDone
 pub mod TruncationsAfterTurns
-pub mod EngineStepsOfCalls
+pub mod CommandsOfSteps
 pub mod RightsOfTurns
 pub mod OwnRevocations
 pub mod PieceTurns
@@ -95,7 +95,7 @@ pub mod FindsOfWalks
 pub mod NotableSteps
 pub mod NotableKept
 pub mod TablesKept
-pub mod EngineStepsOfTables
+pub mod EngineSteps
 pub mod PieceSteps
 pub mod TablesAtBoot
 pub mod Columns

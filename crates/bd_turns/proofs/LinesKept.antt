@@ -17,7 +17,7 @@ use Rattle.bd_turns.specs.Engines.{Step, request_of_piece}
 use Rattle.bd_turns.specs.Sound.{AreLinesOfParts}
 use Rattle.bd_turns.specs.State.{Posted, State}
 use Rattle.bd_turns.specs.Turns.{attached_tables, tables_after}
-use Rattle.bd_turns.proofs.EngineStepsOfTables.{IsChange, IsStep, completes, drains, enters, fills, looks, misses, moves, reads, retires, sweeps}
+use Rattle.bd_turns.proofs.EngineSteps.{IsChange, IsStep, completes, drains, enters, fills, looks, misses, moves, reads, retires, sweeps}
 use Rattle.bd_turns.proofs.TablesOfSteps.{is_request}
 
 -- ---- a line that changes

@@ -25,7 +25,7 @@ use Rattle.bd_turns.specs.Engines.{Step, engine_step}
 use Rattle.bd_turns.specs.Sound.{IsWalkFor, MayNote}
 use Rattle.bd_turns.specs.State.{InHand, Missing, State, progress_of, running}
 use Rattle.bd_turns.specs.Turns.{after_step}
-use Rattle.bd_turns.proofs.EngineStepsOfTables.{IsStep, enters, looks, reads, fills, moves, misses, retires, completes}
+use Rattle.bd_turns.proofs.EngineSteps.{IsStep, enters, looks, reads, fills, moves, misses, retires, completes}
 use Rattle.bd_turns.proofs.FindsKept.{Detaches}
 use Rattle.bd_turns.proofs.FindsOfOthers.{misses_after_other, misses_same}
 use Rattle.bd_turns.proofs.HandFrames.{IsSameCall, runs_still}

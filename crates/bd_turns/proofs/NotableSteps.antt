@@ -26,7 +26,7 @@ use Rattle.bd_turns.specs.Engines.{Step, phase_looked, request_for, request_of_p
 use Rattle.bd_turns.specs.Sound.{AreLookupsOf, IsWalkFor, cell_of_block}
 use Rattle.bd_turns.specs.State.{InHand, Phase, Looking, Reading, Filling, Moving, Missing, Retiring, Completing, State, progress_of}
 use Rattle.bd_turns.specs.Turns.{after_step}
-use Rattle.bd_turns.proofs.EngineStepsOfTables.{IsStep, enters, looks, reads, fills, moves, misses, retires, completes}
+use Rattle.bd_turns.proofs.EngineSteps.{IsStep, enters, looks, reads, fills, moves, misses, retires, completes}
 use Rattle.bd_turns.proofs.FilesOfRights.{of_right}
 use Rattle.bd_turns.proofs.FindsOfWalks.{enter_finds, read_finds}
 use Rattle.bd_turns.proofs.HandsOfSteps.{walk_here}

@@ -39,7 +39,6 @@ use Rattle.bd_turns.specs.Rest.{end_of_call, growth_turns, kernel_turns, unanswe
 use Rattle.bd_turns.specs.State.{Progress, State, has_ended, holder_of, outstanding, progress_of, running}
 use Rattle.bd_turns.specs.Turns.{holds_after, holds_throughout, with_hold}
 use Rattle.bd_turns.proofs.ActionsOfCalls.{adds_for, throughout-no_pieces}
-use Rattle.bd_turns.proofs.CallsAfterTurns.{runs_at}
 use Rattle.bd_turns.proofs.EffectiveTurns.{has_ended-by_end}
 use Rattle.bd_turns.proofs.EntriesOfCalls.{added_made}
 use Rattle.bd_turns.proofs.FilesOfCalls.{store_after}
@@ -52,6 +51,7 @@ use Rattle.bd_turns.proofs.ProcessorTurns.{none_as_processor_adds}
 use Rattle.bd_turns.proofs.Revocations.{revokes-adds}
 use Rattle.bd_turns.proofs.SizesAfter.{extended_size}
 use Rattle.bd_turns.proofs.StayingDescriptors.{whole_ends}
+use Rattle.bd_turns.proofs.RunningPlaces.{runs_at}
 
 -- ---- no processor notes that a walk found nothing
 

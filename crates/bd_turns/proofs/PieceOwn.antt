@@ -22,14 +22,15 @@ use Rattle.bd_turns.specs.Reached.{IsReached}
 use Rattle.bd_turns.specs.Rest.{command_turns, kernel_turns, piece_turns, turns_for}
 use Rattle.bd_turns.specs.State.{Progress, State, outstanding, progress_of, running}
 use Rattle.bd_turns.specs.Turns.{with_turn_used}
-use Rattle.bd_turns.proofs.EngineStepsOfCalls.{step_is}
-use Rattle.bd_turns.proofs.EngineSteps.{is_of_device, step_keeps}
+use Rattle.bd_turns.proofs.CommandsOfSteps.{step_is}
+use Rattle.bd_turns.proofs.StepsLeave.{step_keeps}
 use Rattle.bd_turns.proofs.FilesOfCalls.{store_after}
 use Rattle.bd_turns.proofs.EffectiveTurns.{store_with}
 use Rattle.bd_turns.proofs.PieceSteps.{poll_outstanding, poll_turns, polls_some, step_outstanding, submission_outstanding, submission_turns}
 use Rattle.bd_turns.proofs.PieceTurns.{after, kernel_less, untouched_falls, untouched_less, untouched_with}
 use Rattle.bd_turns.proofs.ProcessorTurns.{is_fresh}
 use Rattle.bd_turns.proofs.StepTurns.{steps_fall}
+use Rattle.bd_entry.specs.Promises.{is_access_or_miss}
 
 -- a call with pieces counts their turns
 pub of_pieces : (m : State) (p : Place) (call : Call) (file : Option ℕ) → pieces_of_call call ≢ [] → turns_for m p call file ≡ piece_turns m p file
@@ -56,11 +57,11 @@ pieces_fall m next p added g file progress falls =
     omega (arith, same, falls)
 
 -- an entry of an engine leaves the size of each file
-device_size : (s : Store) (call : Call) (e : Entry) (file : ℕ) → is_of_device e ≡ true → size_in (store_after s call e) file ≡ size_in s file
+device_size : (s : Store) (call : Call) (e : Entry) (file : ℕ) → is_access_or_miss e ≡ true → size_in (store_after s call e) file ≡ size_in s file
 device_size s call e file is =
     ap (λ (files : List (Option Inode)). size_at files file) ((effect_of-files s (place_in s call (at_of e)) e).files ∙ by e is)
   where
-    by : (x : Entry) → is_of_device x ≡ true → (after_change s x).files ≡ s.files
+    by : (x : Entry) → is_access_or_miss x ≡ true → (after_change s x).files ≡ s.files
     by (entries.Access at piece fd f index block range true way bytes) is = refl
     by (entries.Access at piece fd f index block range false way bytes) is = refl
     by (entries.Missed at piece found) is = refl
@@ -115,7 +116,7 @@ module _ (v : Volume) (m next : State) (reached : IsReached v m) (p : Place) (ru
       let turns = falls.falls in
       omega (arith, kernel, held, fewer, turns)
     where
-      by : (file : ℕ) (o : Option Entry) → ((e : Entry) → o ≡ Some e → is_of_device e ≡ true) →
+      by : (file : ℕ) (o : Option Entry) → ((e : Entry) → o ≡ Some e → is_access_or_miss e ≡ true) →
           size_in (store_with m.store p.call o) file ≡ size_in m.store file
       by file None device = refl
       by file (Some e) device = device_size m.store p.call e file (device e refl)

@@ -21,7 +21,7 @@ use Rattle.bd_turns.specs.Processors.{Action, action_for, least_outstanding, nex
 use Rattle.bd_turns.specs.Rest.{command_turns}
 use Rattle.bd_turns.specs.Sound.{AreCommands, is_told}
 use Rattle.bd_turns.specs.State.{Completed, InHand, Progress, State, holder_of, outstanding, pieces_in_hand, progress_of}
-use Rattle.bd_turns.proofs.EngineStepsOfCalls.{StepDoes}
+use Rattle.bd_turns.proofs.CommandsOfSteps.{StepDoes}
 use Rattle.bd_turns.proofs.Revocations.{Revokes, revokes}
 
 -- the pieces of completions

@@ -27,7 +27,7 @@ use Rattle.bd_turns.proofs.AddedByActs.{processor_adds, processor_submits}
 use Rattle.bd_turns.proofs.ClosingCalls.{leaves_cleared}
 use Rattle.bd_turns.proofs.CommandSteps.{polled, polled_all, polled_commands, submitted_all, submitted_commands, with_submitted}
 use Rattle.bd_turns.proofs.DoneTurns.{IsDone, grown}
-use Rattle.bd_turns.proofs.EngineStepsOfCalls.{at_none}
+use Rattle.bd_turns.proofs.CommandsOfSteps.{at_none}
 use Rattle.bd_turns.proofs.KeptCommands.{no_commands}
 use Rattle.bd_turns.proofs.LegalActs.{none_as_added, none_without_pieces, pieces_outstanding}
 use Rattle.bd_turns.proofs.NextRevocations.{next_submits}

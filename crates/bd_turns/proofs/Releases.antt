@@ -36,7 +36,7 @@ use Rattle.bd_turns.specs.State.{Posted, State, running}
 use Rattle.bd_turns.specs.Turns.{Outcome, Nothing, Acting, after_adding, answer_in, entries_added, outcome_of, outcome_of_action, outcome_of_invalidation, state_after}
 use Rattle.bd_turns.proofs.AddedEntries.{added_keeps}
 use Rattle.bd_turns.proofs.Cases.{each_outcome}
-use Rattle.bd_turns.proofs.EngineStepsOfTables.{IsStep, completes, engine_steps, enters, fills, looks, misses, moves, reads, retires}
+use Rattle.bd_turns.proofs.EngineSteps.{IsStep, completes, engine_steps, enters, fills, looks, misses, moves, reads, retires}
 use Rattle.bd_turns.proofs.HeldTranslations.{held_translations_are_current}
 use Rattle.bd_turns.proofs.LegalTurns.{turns_add_legally}
 use Rattle.bd_turns.proofs.RightsAfterTurns.{row_is}

@@ -29,7 +29,7 @@ use Rattle.bd_turns.specs.Sound.{is_revoked}
 use Rattle.bd_turns.specs.State.{State}
 use Rattle.bd_turns.specs.Turns.{attached_tables, grown_tables, may_write, tables_after}
 use Rattle.bd_turns.proofs.AddedEntries.{added_keeps, adds_from, is_detach, processors_detach_nothing}
-use Rattle.bd_turns.proofs.EngineStepsOfTables.{IsChange, IsEnd, drains, sweeps}
+use Rattle.bd_turns.proofs.EngineSteps.{IsChange, IsEnd, drains, sweeps}
 use Rattle.bd_turns.proofs.RightsFit.{AllFit, AreAlike, IsAlike, key_at}
 use Rattle.bd_turns.proofs.RightsSteps.{after_change-alike, all_fit_after, all_fit_attach, all_fit_clear, all_fit_detach, all_fit_slot, all_fit_states, all_fit_untouched, none_of_bare, none_of_empty, touches_rights}
 

@@ -27,7 +27,7 @@ use Rattle.bd_turns.specs.Turns.{after_adding, after_effect, after_ending, after
 use Rattle.bd_turns.proofs.AddedEntries.{added_of_call, adds_from, is_detach, processors_detach_nothing}
 use Rattle.bd_turns.proofs.Cases.{Effective, Leads, acts, adds, changes, ends, polls, posts, stays, steps, submits, turn_leads}
 use Rattle.bd_turns.proofs.CellsOfPairs.{lookups_of_cells, whole_of_cells}
-use Rattle.bd_turns.proofs.EngineStepsOfTables.{IsChange, IsEnd, changes_of, drains, end_of, engine_steps, sweeps}
+use Rattle.bd_turns.proofs.EngineSteps.{IsChange, IsEnd, changes_of, drains, end_of, engine_steps, sweeps}
 use Rattle.bd_turns.proofs.FindsKept.{Detaches}
 use Rattle.bd_turns.proofs.RunningPlaces.{runs_at}
 use Rattle.bd_turns.proofs.HandsKept.{AreWalking, IsCalm, calm_adding, calm_effect, calm_polling, calm_posting, calm_submitting, idle_calm, walking_calm}

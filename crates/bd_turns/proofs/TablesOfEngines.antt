@@ -31,7 +31,7 @@ use Rattle.bd_turns.specs.State.{State}
 use Rattle.bd_turns.proofs.AddedEntries.{added_keeps}
 use Rattle.bd_turns.proofs.CellsOfFiles.{KeepsAt}
 use Rattle.bd_turns.proofs.CellsOfPairs.{AreCells, KeepsFilesOf, cells_of_detach, cells_of_states, cells_of_store}
-use Rattle.bd_turns.proofs.EngineStepsOfTables.{IsChange, IsEnd, drains, sweeps}
+use Rattle.bd_turns.proofs.EngineSteps.{IsChange, IsEnd, drains, sweeps}
 use Rattle.bd_turns.proofs.FilesOfRights.{keeps_files}
 use Rattle.bd_turns.proofs.RightsFit.{AllFit}
 use Rattle.bd_turns.proofs.RightsKept.{rights_after_change, rights_after_ending}

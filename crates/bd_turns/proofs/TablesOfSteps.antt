@@ -27,7 +27,7 @@ use Rattle.bd_turns.specs.State.{InHand, Phase, State, Looking, Reading, Filling
 use Rattle.bd_turns.specs.Turns.{after_step}
 use Rattle.bd_turns.proofs.AddedEntries.{added_keeps}
 use Rattle.bd_turns.proofs.CellsOfFiles.{DoesNotGrow, IsOfProcess}
-use Rattle.bd_turns.proofs.EngineStepsOfTables.{IsStep, enters, looks, reads, fills, moves, misses, retires, completes}
+use Rattle.bd_turns.proofs.EngineSteps.{IsStep, enters, looks, reads, fills, moves, misses, retires, completes}
 use Rattle.bd_turns.proofs.FilesOfRights.{keeps_files}
 use Rattle.bd_turns.proofs.RightsSteps.{all_fit_after, all_fit_untouched, touches_rights}
 use Rattle.bd_turns.proofs.TablesOfEngines.{RefusedOpen, entered_open, looked_open, never_refused, open_with_walk, read_open}

@@ -27,12 +27,12 @@ use Rattle.bd_turns.specs.Rest.{attach_turns, command_turns, is_by, is_on_file, 
 use Rattle.bd_turns.specs.Sound.{keeps_allowed}
 use Rattle.bd_turns.specs.State.{Completed, InHand, Progress, State, outstanding, pieces_in_hand, progress_of, running}
 use Rattle.bd_turns.proofs.AttachTurns.{part_bound}
-use Rattle.bd_turns.proofs.CallsAfterTurns.{runs_at}
 use Rattle.bd_turns.proofs.FileOwn.{has_pieces}
 use Rattle.bd_turns.proofs.GrowthTurns.{size_most}
 use Rattle.bd_turns.proofs.OtherTurns.{file_there}
 use Rattle.bd_turns.proofs.PieceTurns.{unanswered_bound, untouched_bound}
 use Rattle.bd_turns.proofs.RevocationTurns.{revocation_bound}
+use Rattle.bd_turns.proofs.RunningPlaces.{runs_at}
 
 one_most : (a : ℕ) → a ≤ 20480 → a + 1 ≤ 24577
 one_most a less = omega arith

@@ -24,6 +24,7 @@ use Rattle.bd_turns.specs.declared.turn.Row.TheVariants as rows
 use Rattle.bd_turns.specs.Engines.{Step, complete, engine_step, engine_with, enter, fill, go_on, look, miss, move, move_entry, move_entry_of, notes, phase_after, phase_looked, read_entry, request_of_piece, retire, take_command}
 use Rattle.bd_turns.specs.Sound.{AreCommands, has_told}
 use Rattle.bd_turns.specs.State.{InHand, Looking, Reading, Filling, Moving, Missing, Retiring, Completing, Phase, Progress, State, outstanding, progress_of}
+use Rattle.bd_turns.proofs.EngineSteps.{IsStep, completes, engine_steps, enters, fills, looks, misses, moves, reads, retires}
 
 -- what the turn does: the oldest command is taken; the engine goes on with the one in its hand; it says what became of
 -- it; or it gives it back
@@ -39,7 +40,7 @@ pub data StepDoes (p : Place) (progress : Progress) (step : Step) : Type 0 where
       step.entry ≡ None → StepDoes p progress step
 
 -- and each engine keeps its walk
-pub record IsStep (m : State) (p : Place) (step : Step) : Type 0 where
+pub record IsEngineTurn (m : State) (p : Place) (step : Step) : Type 0 where
   pub does : StepDoes p (progress_of m p.at.process) step
   pub walks : length step.tables.walks ≡ length m.tables.walks
 
@@ -75,81 +76,74 @@ miss_alone p number found = record { tells = eq-eqb number number refl; alone = 
 
 -- ---- every turn
 
-module _ (m : State) (p : Place) (step : Step) where
-  -- how far the process is
-  abbrev so_far : Progress
-  so_far = progress_of m p.at.process
+-- the command in an engine's hand, which is in this phase
+hand_in : (progress : Progress) (hand : InHand) (phase : Phase) → progress.hand ≡ Some hand → hand.phase ≡ phase →
+    progress.hand ≡ Some (hand_of hand.piece phase)
+hand_in progress hand phase in_hand is = in_hand ∙ ap (λ (x : Phase). Some (hand_of hand.piece x)) is
 
-  takes_one : (submitted : List ℕ) → so_far.hand ≡ None → so_far.submitted ≡ submitted →
-      take_command m.tables p so_far submitted ≡ Some step → IsStep m p step
-  takes_one [] free list is = absurd (none-some step is)
-  takes_one (number ∷ rest) free list is =
-      let found = map_from (enter m.tables so_far number rest) (request_of_piece p number) step is in
-      let request : Request = found.0 in
-      let phase = phase_after (found_entering (fin.get m.tables.rights request.key) request.write) Looking in
-      subst (IsStep m p) found.2
-      (record {
-        does =
-            StepDoes.takes number rest phase free list
-            (entering_untold (found_entering (fin.get m.tables.rights request.key) request.write)) refl refl;
-        walks = length-set m.tables.walks request.key.process _;
-      })
+turn_of : (m : State) (p : Place) (step : Step) → IsStep m p step → IsEngineTurn m p step
+turn_of m p step (enters number rest request none waiting of_piece is) =
+    let found = found_entering (fin.get m.tables.rights request.key) request.write in
+    subst (IsEngineTurn m p) (sym is)
+    (record {
+      does = StepDoes.takes number rest (phase_after found Looking) none waiting (entering_untold found) refl refl;
+      walks = length-set m.tables.walks request.key.process _;
+    })
+turn_of m p step (looks hand request in_hand phase of_piece is) =
+    let cell = hit m.tables.lines request.key request.index request.hi in
+    subst (IsEngineTurn m p) (sym is)
+    (record {
+      does =
+          StepDoes.goes_on hand.piece Looking (phase_looked cell) (hand_in (progress_of m p.at.process) hand Looking in_hand phase)
+          (looking_untold cell) refl refl;
+      walks = length-set m.tables.walks request.key.process _;
+    })
+turn_of m p step (reads hand request in_hand phase of_piece is) =
+    let found = found_reading request.hi (lookup m.tables request.key request.index) in
+    subst (IsEngineTurn m p) (sym is)
+    (record {
+      does =
+          StepDoes.goes_on hand.piece Reading (phase_after found Filling) (hand_in (progress_of m p.at.process) hand Reading in_hand phase)
+          (reading_untold found) refl refl;
+      walks = length-set m.tables.walks request.key.process _;
+    })
+turn_of m p step (fills hand request completion in_hand phase of_piece told is) =
+    subst (IsEngineTurn m p) (sym is)
+    (record {
+      does = StepDoes.goes_on hand.piece Filling Moving (hand_in (progress_of m p.at.process) hand Filling in_hand phase) refl refl refl;
+      walks = refl;
+    })
+turn_of m p step (moves hand completion entry in_hand phase told entry_is is) =
+    let alone = access_alone m.store p hand.piece completion.block entry entry_is in
+    subst (IsEngineTurn m p) (sym is)
+    (record {
+      does =
+          StepDoes.tells hand.piece Moving entry (hand_in (progress_of m p.at.process) hand Moving in_hand phase) refl refl alone.0 alone.1;
+      walks = refl;
+    })
+turn_of m p step (misses hand found in_hand phase found_is is) =
+    subst (IsEngineTurn m p) (sym is)
+    (record {
+      does =
+          StepDoes.tells hand.piece Missing (entries.Missed p.at hand.piece found)
+          (hand_in (progress_of m p.at.process) hand Missing in_hand phase) refl refl (miss_alone p hand.piece found) refl;
+      walks = refl;
+    })
+turn_of m p step (retires hand in_hand phase is) =
+    subst (IsEngineTurn m p) (sym is)
+    (record {
+      does = StepDoes.goes_on hand.piece Retiring Completing (hand_in (progress_of m p.at.process) hand Retiring in_hand phase) refl refl refl;
+      walks = length-set m.tables.walks p.at.process _;
+    })
+turn_of m p step (completes hand in_hand phase is) =
+    subst (IsEngineTurn m p) (sym is)
+    (record {
+      does = StepDoes.gives hand.piece (hand_in (progress_of m p.at.process) hand Completing in_hand phase) refl refl;
+      walks = refl;
+    })
 
-  with_piece : (number : ℕ) (phase : Phase) → so_far.hand ≡ Some (hand_of number phase) → go_on m p so_far number phase ≡ Some step →
-      IsStep m p step
-  with_piece number Looking in_hand is =
-      let found = map_from (look m.tables so_far number) (request_of_piece p number) step is in
-      let request : Request = found.0 in
-      let cell = hit m.tables.lines request.key request.index request.hi in
-      subst (IsStep m p) found.2
-      (record {
-        does = StepDoes.goes_on number Looking (phase_looked cell) in_hand (looking_untold cell) refl refl;
-        walks = length-set m.tables.walks request.key.process _;
-      })
-  with_piece number Reading in_hand is =
-      let found = map_from (read_entry m.tables so_far number) (request_of_piece p number) step is in
-      let request : Request = found.0 in
-      let reads = found_reading request.hi (lookup m.tables request.key request.index) in
-      subst (IsStep m p) found.2
-      (record {
-        does = StepDoes.goes_on number Reading (phase_after reads Filling) in_hand (reading_untold reads) refl refl;
-        walks = length-set m.tables.walks request.key.process _;
-      })
-  with_piece number Filling in_hand is =
-      let told = told_of (walk_at m.tables.walks p.at.process) in
-      let by = then_from (λ request. option_map (fill m.tables so_far number request) told) (request_of_piece p number) step is in
-      let found = map_from (fill m.tables so_far number by.0) told step by.2 in
-      subst (IsStep m p) found.2 (record { does = StepDoes.goes_on number Filling Moving in_hand refl refl refl; walks = refl })
-  with_piece number Moving in_hand is =
-      let told = then_from (move m.store m.tables p so_far number) (told_of (walk_at m.tables.walks p.at.process)) step is in
-      let entry = map_from (notes rows.Move m.tables so_far number) (move_entry_of m.store p number told.0.block) step told.2 in
-      let alone = access_alone m.store p number told.0.block entry.0 entry.1 in
-      subst (IsStep m p) entry.2
-      (record { does = StepDoes.tells number Moving entry.0 in_hand refl refl alone.0 alone.1; walks = refl })
-  with_piece number Missing in_hand is =
-      let found = map_from (miss m.tables p so_far number) (found_of (walk_at m.tables.walks p.at.process)) step is in
-      subst (IsStep m p) found.2
-      (record {
-        does =
-            StepDoes.tells number Missing (entries.Missed p.at number found.0) in_hand refl refl (miss_alone p number found.0) refl;
-        walks = refl;
-      })
-  with_piece number Retiring in_hand is =
-      subst (IsStep m p) (same_Some (retire m.tables p so_far number) step is)
-      (record {
-        does = StepDoes.goes_on number Retiring Completing in_hand refl refl refl;
-        walks = length-set m.tables.walks p.at.process _;
-      })
-  with_piece number Completing in_hand is =
-      subst (IsStep m p) (same_Some (complete m.tables p so_far number) step is)
-      (record { does = StepDoes.gives number in_hand refl refl; walks = refl })
-
-  with_hand : (hand : Option InHand) → so_far.hand ≡ hand → engine_with m p so_far hand ≡ Some step → IsStep m p step
-  with_hand None free taking = takes_one so_far.submitted free refl taking
-  with_hand (Some hand) in_hand goes = with_piece hand.piece hand.phase in_hand goes
-
-  pub step_is : engine_step m p ≡ Some step → IsStep m p step
-  step_is is = with_hand so_far.hand refl is
+pub step_is : (m : State) (p : Place) (step : Step) → engine_step m p ≡ Some step → IsEngineTurn m p step
+step_is m p step is = turn_of m p step (engine_steps m p step is)
 
 -- ---- what it leaves
 
