@@ -1,24 +1,23 @@
 -- What is known of the entries that turns add.
 use Rattle.std.proofs.Common.{◌≡◌, inl, inr, ℕ, ◌≤◌, IfSome, Bool, true, false, cond, List, length, Option, None, Some, refl, sym, ap, ◌∙◌, subst, ⊎_elim, ◌-◌}
 use Rattle.std.specs.Prelude.{nat_lt, slice_get}
-use Rattle.std.specs.Option.{option_and_then, option_map}
+use Rattle.std.specs.Option.{option_map}
 use Rattle.std.proofs.lemmas.Bool.{both_ways, cases_lt, cond-true, false≢true, lt-ltb}
 use Rattle.std.proofs.lemmas.Option.{none-some, same_Some}
 use Rattle.bd_base.specs.declared.key.Key.{Key}
 use Rattle.bd_base.specs.declared.limits.TheConstants.{POSTS}
 use Rattle.bd_base.specs.declared.journal.At.{At}
 use Rattle.bd_base.specs.declared.script.Call.{Call}
-use Rattle.bd_base.specs.declared.script.Call.TheVariants.{Enter, Create, Truncate}
+use Rattle.bd_base.specs.declared.script.Call.TheVariants.{Truncate}
 use Rattle.bd_base.specs.declared.volume.Inode.{Inode}
 use Rattle.bd_base.specs.declared.volume.Volume.{Volume}
-use Rattle.bd_base.specs.Inodes.{free_id}
 use Rattle.bd_entry.specs.declared.act.Act.{Act}
 use Rattle.bd_entry.specs.declared.act.Act.TheVariants as acts
 use Rattle.bd_entry.specs.declared.entry.Entry.{Entry}
 use Rattle.bd_entry.specs.declared.entry.Entry.TheVariants as entries
-use Rattle.bd_entry.specs.Actions.{is_none_of, created_entry, entry_of_act, is_to_shrink, kernel_entry, next_act, opened_entry, own_act, truncate_to}
-use Rattle.bd_entry.specs.Calls.{Place, at_of, call_at, entries_of, fd_of, piece_of_call}
-use Rattle.bd_entry.specs.Refusals.{descriptor_of, file_of, growth_reason_of, next_size}
+use Rattle.bd_entry.specs.Actions.{is_none_of, entry_of_act, is_to_shrink, next_act, own_act, truncate_to}
+use Rattle.bd_entry.specs.Calls.{Place, at_of, call_at, entries_of}
+use Rattle.bd_entry.specs.Refusals.{file_of, growth_reason_of, next_size}
 use Rattle.bd_entry.specs.Rules.{EntryRule, FitsCall, FitsStore, place_in}
 use Rattle.bd_entry.specs.RulesOfCalls.{IsOfCall}
 use Rattle.bd_entry.specs.Store.{Store, blocks_in, size_in}

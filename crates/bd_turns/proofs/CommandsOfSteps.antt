@@ -1,7 +1,6 @@
 -- What a turn of a device engine does with the commands of its process.
-use Rattle.std.proofs.Common.{◌≡◌, ℕ, true, false, List, [], ◌∷◌, length, Option, None, Some, refl, sym, ap, ◌∙◌, subst}
+use Rattle.std.proofs.Common.{◌≡◌, ℕ, true, false, List, ◌∷◌, length, Option, None, Some, refl, sym, ap, ◌∙◌, subst}
 use Rattle.std.specs.Prelude.{nat_eq, All}
-use Rattle.std.specs.Option.{option_map}
 use Rattle.std.specs.FinMap as fin
 use Rattle.std.proofs.lemmas.Bool.{eq-eqb, or_left}
 use Rattle.std.proofs.lemmas.List.{append-nil, length-set}
@@ -13,15 +12,12 @@ use Rattle.bd_entry.specs.declared.entry.Entry.TheVariants as entries
 use Rattle.bd_entry.specs.Calls.{Place}
 use Rattle.bd_entry.specs.Promises.{is_access_or_miss}
 use Rattle.bd_entry.specs.Store.{Store}
-use Rattle.bd_entry.proofs.NextActs.{map_from, then_from}
 use Rattle.bd_lines.specs.Lines.{hit}
-use Rattle.bd_tables.specs.declared.request.Request.{Request}
-use Rattle.bd_tables.specs.State.{found_entering, found_of, found_reading, lookup, told_of, walk_at}
+use Rattle.bd_tables.specs.State.{found_entering, found_reading, lookup}
 use Rattle.bd_turns.proofs.DoneTurns.{grown}
 use Rattle.bd_turns.proofs.EngineCommands.{TellsAlone, given_all, given_back, given_commands, hand_of, phase_all, phase_commands, taken, taken_all, taken_commands, told_commands, with_phase}
 use Rattle.bd_turns.proofs.LegalMoves.{moves_by}
-use Rattle.bd_turns.specs.declared.turn.Row.TheVariants as rows
-use Rattle.bd_turns.specs.Engines.{Step, complete, engine_step, engine_with, enter, fill, go_on, look, miss, move, move_entry, move_entry_of, notes, phase_after, phase_looked, read_entry, request_of_piece, retire, take_command}
+use Rattle.bd_turns.specs.Engines.{Step, engine_step, move_entry, move_entry_of, phase_after, phase_looked}
 use Rattle.bd_turns.specs.Sound.{AreCommands, has_told}
 use Rattle.bd_turns.specs.State.{InHand, Looking, Reading, Filling, Moving, Missing, Retiring, Completing, Phase, Progress, State, outstanding, progress_of}
 use Rattle.bd_turns.proofs.EngineSteps.{IsStep, completes, engine_steps, enters, fills, looks, misses, moves, reads, retires}

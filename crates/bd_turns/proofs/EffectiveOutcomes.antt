@@ -1,15 +1,13 @@
 -- An effective turn is one of the kinds of effective turns.
-use Rattle.std.proofs.Common.{◌≡◌, ℕ, ◌*◌, ◌-◌, Bool, true, false, cond, Option, None, Some, refl}
-use Rattle.std.specs.Prelude.{nat_lt}
-use Rattle.std.specs.Option.{option_map_or, option_to_list}
+use Rattle.std.proofs.Common.{◌≡◌, ℕ, Some}
 use Rattle.bd_entry.specs.Calls.{Place}
 use Rattle.bd_turns.specs.Engines as engines
 use Rattle.bd_turns.specs.Engines.{Invalidation, Step, engine_step, invalidation_of}
 use Rattle.bd_turns.specs.Processors as processors
 use Rattle.bd_turns.specs.Processors.{Action, next_action}
 use Rattle.bd_turns.specs.State.{State, running}
-use Rattle.bd_turns.specs.Turns.{Outcome, Nothing, Waiting, Acting, after_step, engine_outcome, invalidation_outcome, outcome_of, outcome_of_action, outcome_of_invalidation, posting_place, process_count, processor_outcome}
-use Rattle.bd_turns.proofs.Cases.{Effective, adds, changes, ends, polls, posts, running_there, steps, submits, each_outcome}
+use Rattle.bd_turns.specs.Turns.{Outcome, Nothing, Waiting, Acting, outcome_of, outcome_of_action, outcome_of_invalidation, posting_place}
+use Rattle.bd_turns.proofs.Cases.{Effective, adds, changes, ends, polls, posts, steps, submits, each_outcome}
 
 -- an outcome that acts is of a kind
 abbrev pub IsOfKind : State → Outcome → Type 0

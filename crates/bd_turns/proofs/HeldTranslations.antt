@@ -1,5 +1,5 @@
 -- Each translation that is held is current, in each state that a machine has come to.
-use Rattle.std.proofs.Common.{◌≡◌, ℕ, ◌/◌, ◌≤◌, List, [], ◌∷◌, ◌++◌, map, slice_get, Option, None, Some, refl, sym, ap, ◌∙◌, subst, ⊎_elim}
+use Rattle.std.proofs.Common.{◌≡◌, ℕ, ◌/◌, ◌≤◌, slice_get, Option, None, Some, refl, sym, ap, ◌∙◌, subst, ⊎_elim}
 use Rattle.std.specs.FinMap as fin
 use Rattle.std.proofs.lemmas.Option.{none-some, same_Some}
 use Rattle.bd_base.specs.declared.key.Cell.{Cell}
@@ -15,7 +15,7 @@ use Rattle.bd_tables.specs.State.{TableState, cell_of, lookup, lookup_under, req
 use Rattle.bd_turns.specs.Names.{HeldTranslationsAreCurrent, IsCurrent, by_engine, by_line}
 use Rattle.bd_turns.specs.Reached.{IsReached}
 use Rattle.bd_turns.specs.Sound.{IsWalkAt}
-use Rattle.bd_turns.specs.State.{Completed, InHand, Phase, Looking, Reading, Filling, Moving, Missing, Retiring, Completing, Progress, State, outstanding, pieces_in_hand, progress_of, running}
+use Rattle.bd_turns.specs.State.{InHand, Phase, Looking, Reading, Filling, Moving, Missing, Retiring, Completing, State, progress_of, running}
 use Rattle.bd_turns.proofs.Cases.{running_process}
 use Rattle.bd_turns.proofs.CellsOfGrowth.{cell_if, cell_of_block-is}
 use Rattle.bd_turns.proofs.LinesKept.{request_of_part}

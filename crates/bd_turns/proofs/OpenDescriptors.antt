@@ -1,12 +1,12 @@
 -- A direct open or a map that goes on has its descriptor open.
-use Rattle.std.proofs.Common.{◌≡◌, ◌≢◌, ℕ, zero, suc, ◌<◌, Bool, true, false, List, [], ◌∷◌, ◌++◌, length, Option, None, Some, refl, sym, ap, ◌∙◌, subst, arith, ⊎_elim}
+use Rattle.std.proofs.Common.{◌≡◌, ◌≢◌, ℕ, zero, suc, ◌<◌, Bool, true, false, List, [], ◌∷◌, ◌++◌, length, Option, None, Some, refl, sym, ap, ◌∙◌, subst, arith}
 use Rattle.std.specs.Prelude.{IsSome, slice_index_or, slice_set}
 use Rattle.std.specs.List.{list_any}
 use Rattle.std.proofs.lemmas.Bool.{both_ways, false≢true, or_parts}
 use Rattle.std.proofs.lemmas.List.{get_or-set_same}
 use Rattle.std.proofs.lemmas.List.Folds.{list_any-append}
 use Rattle.std.proofs.lemmas.List.Quantifiers.{position-Some}
-use Rattle.std.proofs.lemmas.Option.{none-some, same_Some}
+use Rattle.std.proofs.lemmas.Option.{same_Some}
 use Rattle.bd_base.specs.declared.script.Call.{Call}
 use Rattle.bd_base.specs.declared.script.Call.TheVariants.{Enter, Map}
 use Rattle.bd_base.specs.declared.script.How.TheVariants as hows
@@ -16,7 +16,7 @@ use Rattle.bd_base.specs.declared.journal.At.{At}
 use Rattle.bd_entry.specs.declared.entry.Entry.{Entry}
 use Rattle.bd_entry.specs.declared.entry.Entry.TheVariants as entries
 use Rattle.bd_entry.specs.Calls.{at_of, call_at, fd_of_call, is_end_of, is_ended_by, is_opened, opened_fd}
-use Rattle.bd_entry.specs.Effects.{after_change, after_telling, effect_of, tells_size, with_known_size, with_told_size}
+use Rattle.bd_entry.specs.Effects.{after_change, effect_of}
 use Rattle.bd_entry.specs.Laws.{IsHistory, IsNextOf}
 use Rattle.bd_entry.specs.Rules.{IsOpen, Once, place_in}
 use Rattle.bd_entry.specs.RulesOfCalls.{IsFirstOfKind, IsNextCall, IsOfCall}
@@ -24,12 +24,12 @@ use Rattle.bd_entry.specs.RulesOfRights.{HasRightDescriptor, TheDescriptor}
 use Rattle.bd_entry.specs.Store.{Descriptor, Store, descriptor_at, in_slot, is_empty_slot, lowest_fd, slots_of, with_slot, work_of}
 use Rattle.bd_entry.proofs.Accesses.{of_call-in_store, work-is_of_call}
 use Rattle.bd_entry.proofs.CallEntries.{fd_of_call-append}
-use Rattle.bd_entry.proofs.DescriptorSteps.{after_call-cases, after_change-becomes, after_telling-cases, is_close}
+use Rattle.bd_entry.proofs.DescriptorSteps.{is_close}
 use Rattle.bd_entry.proofs.Histories.{history_holds}
 use Rattle.bd_entry.proofs.KnownSizes.{work-grown}
 use Rattle.bd_entry.proofs.RunningCalls.{running_cases, work-other}
 use Rattle.bd_entry.proofs.Slots.{some_of}
-use Rattle.bd_entry.proofs.WriteModes.{TheDescriptor-map, TheDescriptor-same, none_at_start}
+use Rattle.bd_entry.proofs.WriteModes.{none_at_start}
 use Rattle.bd_turns.proofs.FilesOfCalls.{changed_kept, descriptor_kept}
 
 -- the descriptor is open

@@ -1,30 +1,27 @@
 -- Each entry that the kernel adds for the pieces of a call leaves it fewer turns.
 use Rattle.std.proofs.Common.{◌≡◌, ◌≢◌, ◌⊎◌, inl, inr, ℕ, ◌+◌, ◌*◌, ◌<◌, ◌≤◌, Bool, true, false, cond, List, [], ◌∷◌, ◌++◌, length, Option, None, Some, refl, sym, ap, ◌∙◌, subst, arith, ⊎_elim}
-use Rattle.std.specs.Prelude.{IsSome, is_some, slice_get}
-use Rattle.std.specs.Option.{option_and_then, option_map}
+use Rattle.std.specs.Prelude.{IsSome, is_some}
+use Rattle.std.specs.Option.{option_map}
 use Rattle.std.specs.List.{find, list_any}
 use Rattle.std.proofs.lemmas.Bool.{both_ways, cond-false, eq-eqb, false_from_ne_true, false≢true, or_parts}
 use Rattle.std.proofs.lemmas.Option.{same_Some, slice_get_within}
 use Rattle.bd_base.specs.declared.journal.At.{At}
 use Rattle.bd_base.specs.declared.journal.Way.{Way}
 use Rattle.bd_base.specs.declared.script.Call.{Call}
-use Rattle.bd_base.specs.declared.script.Call.TheVariants.{Enter, Create, Read, Write, RawRead, RawWrite}
-use Rattle.bd_base.specs.declared.volume.Inode.{Inode}
+use Rattle.bd_base.specs.declared.script.Call.TheVariants.{Read, Write, RawRead, RawWrite}
 use Rattle.bd_base.specs.declared.volume.Volume.{Volume}
-use Rattle.bd_base.specs.Inodes.{free_id, growth_block}
 use Rattle.bd_base.specs.Scripts.{IsCall, IsWithinLimits}
 use Rattle.bd_entry.specs.declared.act.Act.{Act}
-use Rattle.bd_entry.specs.declared.act.Act.TheVariants as acts
 use Rattle.bd_entry.specs.declared.entry.Entry.{Entry}
 use Rattle.bd_entry.specs.declared.entry.Entry.TheVariants as entries
-use Rattle.bd_entry.specs.Actions.{access_entry, created_entry, entry_of_act, kernel_entry, next_act, opened_entry, piece_numbers}
-use Rattle.bd_entry.specs.Calls.{Place, are_all_answered, fd_of, is_answer_of, is_answered, is_end_of, is_ended_by, is_made_by, call_at, piece_end, piece_of_call, pieces_of_call}
+use Rattle.bd_entry.specs.Actions.{entry_of_act, next_act, piece_numbers}
+use Rattle.bd_entry.specs.Calls.{Place, are_all_answered, is_answer_of, is_answered, is_end_of, is_ended_by, is_made_by, call_at, piece_end, piece_of_call, pieces_of_call}
 use Rattle.bd_entry.specs.Promises.{is_whole_refusal}
-use Rattle.bd_entry.specs.Refusals.{descriptor_of, file_of, goal_of, goal_of_call, is_next_for_kernel, kernel_piece, next_size}
+use Rattle.bd_entry.specs.Refusals.{file_of, goal_of, goal_of_call, is_next_for_kernel, kernel_piece, next_size}
 use Rattle.bd_entry.specs.Rules.{NotRefused, Once, RightBlock, RightFile, WithinLimit, place_in}
 use Rattle.bd_entry.specs.RulesOfCalls.{HasFieldsOf, IsFirstOfKind}
 use Rattle.bd_entry.specs.RulesOfContents.{MayGrow, MayGrowToGoal}
-use Rattle.bd_entry.specs.Store.{Store, blocks_in, file_in, size_in, work_of}
+use Rattle.bd_entry.specs.Store.{Store, size_in, work_of}
 use Rattle.bd_entry.proofs.Accesses.{of_call-in_store, work-is_of_call}
 use Rattle.bd_entry.proofs.HistoryLaws.{is_call}
 use Rattle.bd_entry.proofs.NextActs.{map_from, then_from}
@@ -43,7 +40,7 @@ use Rattle.bd_turns.proofs.EffectiveTurns.{has_ended-by_end}
 use Rattle.bd_turns.proofs.EntriesOfCalls.{added_made}
 use Rattle.bd_turns.proofs.FilesOfCalls.{store_after}
 use Rattle.bd_turns.proofs.GrowthTurns.{growth-most, growth_falls, pieces_end}
-use Rattle.bd_turns.proofs.OwnActs.{Fails, fails-map, fails-some, fails-then, adds_by_act, is_by_no_act}
+use Rattle.bd_turns.proofs.OwnActs.{adds_by_act, is_by_no_act}
 use Rattle.bd_turns.proofs.PieceOwn.{PiecesFall}
 use Rattle.bd_turns.proofs.PieceTurns.{after, kernel_falls, kernel_grows, some_unanswered, untouched_less}
 use Rattle.bd_turns.proofs.PiecesThere.{not_all}

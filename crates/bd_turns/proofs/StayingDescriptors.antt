@@ -20,13 +20,13 @@ use Rattle.bd_entry.specs.declared.entry.Entry.{Entry}
 use Rattle.bd_entry.specs.declared.entry.Entry.TheVariants.{Closed, Refused}
 use Rattle.bd_entry.specs.Actions.{is_for_device}
 use Rattle.bd_entry.specs.Calls.{Place, at_of, fd_of_call, is_end_of, is_ended_by, is_made_by, is_raw, named_fd, piece_end, piece_of_call}
-use Rattle.bd_entry.specs.Effects.{after_change, after_telling, effect_of, tells_size, with_known_size, with_told_size}
+use Rattle.bd_entry.specs.Effects.{after_change, after_telling, effect_of, tells_size, with_told_size}
 use Rattle.bd_entry.specs.Promises.{is_whole_refusal}
 use Rattle.bd_entry.specs.Refusals.{goes_direct}
 use Rattle.bd_entry.specs.Rules.{place_in}
 use Rattle.bd_entry.specs.RulesOfRights.{HasRightDescriptor, TheDescriptor}
 use Rattle.bd_entry.specs.Store.{Descriptor, Store, descriptor_at, is_plain, work_of}
-use Rattle.bd_entry.proofs.DescriptorSteps.{Becomes, after_call-cases, after_change-becomes, after_telling-cases, is_close, slot-set_cases}
+use Rattle.bd_entry.proofs.DescriptorSteps.{Becomes, after_call-cases, after_change-becomes, is_close, slot-set_cases}
 use Rattle.bd_entry.proofs.WriteModes.{TheDescriptor-map, TheDescriptor-same}
 use Rattle.bd_turns.proofs.CommandsInHand.{GoesDirectBy, goes_there}
 use Rattle.bd_turns.proofs.UnfinishedCalls.{untold_unfinished}
