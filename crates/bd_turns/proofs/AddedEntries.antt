@@ -31,6 +31,8 @@ use Rattle.bd_turns.specs.Processors.{Action, action_for, add_entry, clear, is_o
 use Rattle.bd_turns.specs.State.{Progress, State, holder_of, outstanding, progress_of}
 use Rattle.bd_turns.proofs.RunningPlaces.{runs_at}
 use Rattle.bd_turns.proofs.OwnActs.{adds_by_act, is_by_no_act}
+use Rattle.bd_turns.proofs.ActionsOfCalls.{adds_for}
+use Rattle.bd_turns.proofs.Revocations.{revokes-adds}
 
 -- ---- the place of an added entry
 
@@ -71,80 +73,20 @@ pub data FromAction (m : State) (p : Place) (e : Entry) : Type 0 where
   by_act : (act : Act) → next_act m.store (holder_of m) (running_of m p) ≡ Some act → entry_of_act m.store p act ≡ Some e → FromAction m p e
   by_clear : (key : Key) → e ≡ entries.Cleared p.at key.process key.fd key.part → FromAction m p e
 
-added_by : (m : State) (p : Place) (act : Act) (row : Row) (e : Entry) → add_entry m p act ≡ Some (processors.Adds row e) →
-    entry_of_act m.store p act ≡ Some e
-added_by m p act row e is =
-    let found = map_from (λ entry. processors.Adds (row_of_entry entry) entry) (entry_of_act m.store p act) (processors.Adds row e) is in
-    found.1 ∙ ap Some (entry_is (processors.Adds (row_of_entry found.0) found.0) found.2)
-  where
-    entry_in : Action → Entry → Entry
-    entry_in (processors.Adds row entry) none = entry
-    entry_in action none = none
-
-    entry_is : (action : Action) → action ≡ processors.Adds row e → entry_in action e ≡ e
-    entry_is action is = ap (λ (a : Action). entry_in a e) is
-
-cleared_by : (m : State) (p : Place) (keys : List Key) (row : Row) (e : Entry) → revocation m p keys ≡ processors.Adds row e →
-    (key : Key) × (e ≡ entries.Cleared p.at key.process key.fd key.part)
-cleared_by m p keys row e is = unposted_first (unposted m keys) refl (uncleared m keys) refl
-  where
-    adds : Action → Bool
-    adds (processors.Adds row entry) = true
-    adds action = false
-
-    entry_in : Action → Entry → Entry
-    entry_in (processors.Adds row entry) none = entry
-    entry_in action none = none
-
-    not_adding : (action : Action) → adds action ≡ false → action ≡ processors.Adds row e → ⊥
-    not_adding action not_so same = false≢true (sym not_so ∙ ap adds same)
-
-    no_post : (key : Key) → adds (post m key) ≡ false
-    no_post key = by (nat_lt (length m.posted) POSTS)
-      where
-        by : (b : Bool) → adds (cond b (processors.Posts key) (processors.WaitsFor (waits.QueueFull POSTS))) ≡ false
-        by true = refl
-        by false = refl
-
-    unposted_first : (a : Option Key) → unposted m keys ≡ a → (b : Option Key) → uncleared m keys ≡ b →
-        (key : Key) × (e ≡ entries.Cleared p.at key.process key.fd key.part)
-    unposted_first (Some key) found b clears = absurd (not_adding (post m key) (no_post key) (rw found at is))
-    unposted_first None found (Some key) clears =
-        let clearing : clear p key ≡ processors.Adds row e = rw (found, clears) at is in
-        (key, sym (ap (λ (a : Action). entry_in a e) clearing))
-    unposted_first None found None clears =
-        absurd (not_adding (processors.WaitsFor (waits.Detaching (length keys))) refl (rw (found, clears) at is))
-
 pub adds_from : (m : State) (p : Place) (row : Row) (e : Entry) → next_action m p ≡ Some (processors.Adds row e) → FromAction m p e
 adds_from m p row e acting =
     let found = then_from (action_for m p) (next_act m.store (holder_of m) (running_of m p)) (processors.Adds row e) acting in
-    by found.0 found.1 found.2
-  where
-    adds : Action → Bool
-    adds (processors.Adds row entry) = true
-    adds action = false
+    ⊎_elim
+    (λ own. by_act found.0 found.1 own.0)
+    (λ revoking. let clears = revokes-adds m p revoking.0 row e revoking.2 in by_clear clears.key clears.entry_is)
+    (adds_for m p found.0 row e found.2)
 
-    never : (action : Action) → adds action ≡ false → Some action ≡ Some (processors.Adds row e) → ⊥
-    never action not_so same = false≢true (sym not_so ∙ ap adds (same_Some action (processors.Adds row e) same))
-
-    no_poll : (progress : Progress) → adds (poll progress) ≡ false
-    no_poll progress = by_test (is_none_of progress.completed)
-      where
-        by_test : (b : Bool) →
-            adds (cond b (processors.WaitsFor (waits.Completion (processors.least_outstanding (outstanding progress)))) processors.Polls) ≡ false
-        by_test true = refl
-        by_test false = refl
-
-    by : (act : Act) → next_act m.store (holder_of m) (running_of m p) ≡ Some act → action_for m p act ≡ Some (processors.Adds row e) →
-        FromAction m p e
-    by (acts.Busy file holder) next is = absurd (never (processors.WaitsFor (waits.Busy file holder)) refl is)
-    by (acts.Revoke keys) next is =
-        let clears = cleared_by m p keys row e (same_Some (revocation m p keys) (processors.Adds row e) is) in
-        by_clear clears.0 clears.1
-    by (acts.Submit piece) next is = absurd (never (processors.Submits piece) refl is)
-    by acts.Poll next is = absurd (never (poll (progress_of m p.at.process)) (no_poll (progress_of m p.at.process)) is)
-    by (acts.Refuse piece reason) next is = by_act (acts.Refuse piece reason) next (added_by m p (acts.Refuse piece reason) row e is)
-    by act next is = by_act act next (added_by m p act row e is)
+-- a processor adds no entry that a test passes which passes no clear and no entry of an act
+pub processors_add : (test : Entry → Bool) → ((e : Entry) → is_by_no_act e ≡ false → test e ≡ false) →
+    ((at : At) (owner fd part : ℕ) → test (entries.Cleared at owner fd part) ≡ false) → (m : State) (p : Place) (e : Entry) → FromAction m p e →
+    test e ≡ false
+processors_add test acts clears m p e (by_act act next adds) = acts e (adds_by_act m.store p act e adds)
+processors_add test acts clears m p e (by_clear key is) = ap test is ∙ clears p.at key.process key.fd key.part
 
 -- ---- no processor detaches
 
@@ -153,17 +95,13 @@ abbrev pub is_detach : Entry → Bool
 is_detach (entries.Detached at owner fd part) = true
 is_detach e = false
 
-pub acts_detach_nothing : (s : Store) (p : Place) (act : Act) (e : Entry) → entry_of_act s p act ≡ Some e → is_detach e ≡ false
-acts_detach_nothing s p act e is = by e (adds_by_act s p act e is)
-  where
-    by : (x : Entry) → is_by_no_act x ≡ false → is_detach x ≡ false
-    by (entries.Detached at owner fd part) not_so = not_so
-    by x not_so = refl
-
 -- a processor detaches no right
 pub processors_detach_nothing : (m : State) (p : Place) (e : Entry) → FromAction m p e → is_detach e ≡ false
-processors_detach_nothing m p e (by_act act next adds) = acts_detach_nothing m.store p act e adds
-processors_detach_nothing m p e (by_clear key is) = ap is_detach is
+processors_detach_nothing = processors_add is_detach by (λ at owner fd part. refl)
+  where
+    by : (e : Entry) → is_by_no_act e ≡ false → is_detach e ≡ false
+    by (entries.Detached at owner fd part) not_so = not_so
+    by e not_so = refl
 
 -- ---- a truncation ends no larger than its file
 

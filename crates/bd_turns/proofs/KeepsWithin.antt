@@ -57,12 +57,13 @@ use Rattle.bd_turns.proofs.PieceSteps.{polls_some, step_outstanding, submission_
 use Rattle.bd_turns.proofs.PieceTurns.{after}
 use Rattle.bd_turns.proofs.ProcessorTurns.{is_fresh}
 use Rattle.bd_turns.proofs.RightsAfterTurns as rights
-use Rattle.bd_turns.proofs.RightsLeft.{leaves_adding, leaves_all, leaves_changing, leaves_ending, leaves_posting, processors_detach_not}
+use Rattle.bd_turns.proofs.RightsLeft.{leaves_adding, leaves_all, leaves_changing, leaves_ending, leaves_posting}
 use Rattle.bd_turns.proofs.StepTurns.{steps_fall}
 use Rattle.bd_turns.proofs.TurnBounds.{file_call_few, pieces_few}
 use Rattle.bd_turns.proofs.WithinAfterTurns.{FallsOn, Takes, kept_within, unbegun-nothing}
 use Rattle.bd_turns.proofs.Columns.{TurnsKeepWithin}
 use Rattle.bd_turns.proofs.RunningPlaces.{runs_at}
+use Rattle.bd_turns.proofs.AddedEntries.{adds_from, processors_detach_nothing}
 
 -- ---- calls that have begun
 
@@ -140,7 +141,7 @@ module _ (v : Volume) (m : State) (reached : IsReached v m) (within : AreWithinT
       let g : Progress = with_hold p.call row (file_of m.store p) before_turn in
       let row_is = rights.row_is m p row e acting in
       let t : Turned v m next p (Some e) g = turned.turned_adds v m reached p runs row e added acting row_is in
-      let detaches_not = processors_detach_not m p row e acting in
+      let detaches_not = processors_detach_nothing m p e (adds_from m p row e acting) in
       record {
         turned = t;
         used = refl;

@@ -49,6 +49,7 @@ use Rattle.bd_turns.proofs.Revocations.{revokes-adds}
 use Rattle.bd_turns.proofs.SizesAfter.{extended_size}
 use Rattle.bd_turns.proofs.StayingDescriptors.{whole_ends}
 use Rattle.bd_turns.proofs.RunningPlaces.{runs_at}
+use Rattle.bd_turns.proofs.AddedEntries.{FromAction, adds_from, processors_add}
 
 -- ---- no processor notes that a walk found nothing
 
@@ -56,20 +57,12 @@ abbrev is_missed : Entry → Bool
 is_missed (entries.Missed at piece found) = true
 is_missed e = false
 
-act_misses_not : (s : Store) (p : Place) (act : Act) (e : Entry) → entry_of_act s p act ≡ Some e → is_missed e ≡ false
-act_misses_not s p act e is = by e (adds_by_act s p act e is)
+misses_not : (m : State) (p : Place) (e : Entry) → FromAction m p e → is_missed e ≡ false
+misses_not = processors_add is_missed by (λ at owner fd part. refl)
   where
-    by : (x : Entry) → is_by_no_act x ≡ false → is_missed x ≡ false
+    by : (e : Entry) → is_by_no_act e ≡ false → is_missed e ≡ false
     by (entries.Missed at piece found) not_so = not_so
-    by x not_so = refl
-
-processors_miss_not : (m : State) (p : Place) (row : Row) (e : Entry) → next_action m p ≡ Some (processors.Adds row e) → is_missed e ≡ false
-processors_miss_not m p row e acting =
-    let found = then_from (action_for m p) (next_act m.store (holder_of m) (running_of m p)) (processors.Adds row e) acting in
-    ⊎_elim
-    (λ own. act_misses_not m.store p found.0 e own.0)
-    (λ revoking. ap is_missed (revokes-adds m p revoking.0 row e revoking.2).entry_is)
-    (adds_for m p found.0 row e found.2)
+    by e not_so = refl
 
 -- ---- the entries of the kernel
 
@@ -218,7 +211,7 @@ module _ (v : Volume) (m next : State) (reached : IsReached v m) (p : Place) (ru
       fields_of x is = subst (HasFieldsOf p) is fields
 
       missing : {A : Type 0} (x : Entry) → e ≡ x → is_missed x ≡ true → A
-      missing x is misses = absurd (both_ways (is_missed e) (processors_miss_not m p row e acting) (ap is_missed is ∙ misses))
+      missing x is misses = absurd (both_ways (is_missed e) (misses_not m p e (adds_from m p row e acting)) (ap is_missed is ∙ misses))
 
       refused : {A : Type 0} (x : Entry) → e ≡ x → is_whole_refusal x ≡ true → A
       refused x is whole = absurd (goes_on-not_whole unended (ap is_whole_refusal is ∙ whole))

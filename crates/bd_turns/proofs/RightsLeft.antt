@@ -36,7 +36,7 @@ use Rattle.bd_turns.specs.Sound.{IsRightOf}
 use Rattle.bd_turns.specs.State.{Posted, State, holder_of, running}
 use Rattle.bd_turns.specs.Turns.{attached_tables, may_write, posting_place, tables_after}
 use Rattle.bd_turns.proofs.ActionsOfCalls.{adds_for}
-use Rattle.bd_turns.proofs.AddedEntries.{acts_detach_nothing, is_detach}
+use Rattle.bd_turns.proofs.AddedEntries.{is_detach}
 use Rattle.bd_turns.proofs.AttachTurns.{attached_slot}
 use Rattle.bd_turns.proofs.FilesOfCalls.{store_after}
 use Rattle.bd_turns.proofs.OtherTurns.{FailsAttached, LeavesRights}
@@ -45,15 +45,6 @@ use Rattle.bd_turns.proofs.RevocationTurns.{NoneRises, attach_rises_not, change_
 use Rattle.bd_turns.proofs.Revocations.{revokes-adds}
 use Rattle.bd_turns.proofs.RightsAfterTurns.{on_from, other_keys, state_set}
 use Rattle.bd_turns.proofs.RightsOfTurns.{KeepsTest, Lowers, front_posted, lowers_by}
-
--- a processor detaches no right
-pub processors_detach_not : (m : State) (p : Place) (row : Row) (e : Entry) → next_action m p ≡ Some (processors.Adds row e) → is_detach e ≡ false
-processors_detach_not m p row e acting =
-    let found = then_from (action_for m p) (next_act m.store (holder_of m) (running_of m p)) (processors.Adds row e) acting in
-    ⊎_elim
-    (λ own. acts_detach_nothing m.store p found.0 e own.0)
-    (λ revoking. ap is_detach (revokes-adds m p revoking.0 row e revoking.2).entry_is)
-    (adds_for m p found.0 row e found.2)
 
 -- a turn without an entry that leaves the rights
 pub leaves_all : (m next : State) (p : Place) (entry : Option Entry) → ((key : Key) → fin.get next.tables.rights key ≡ fin.get m.tables.rights key) →
