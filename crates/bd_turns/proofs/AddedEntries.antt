@@ -1,11 +1,10 @@
 -- What is known of the entries that turns add.
-use Rattle.std.proofs.Common.{◌≡◌, inl, inr, ℕ, ◌≤◌, IfSome, Bool, true, false, cond, List, length, Option, None, Some, refl, sym, ap, ◌∙◌, subst, ⊎_elim, ◌-◌}
+use Rattle.std.proofs.Common.{◌≡◌, inl, inr, ℕ, ◌≤◌, IfSome, Bool, true, false, length, Option, None, Some, refl, sym, ap, ◌∙◌, subst, ⊎_elim, ◌-◌}
 use Rattle.std.specs.Prelude.{nat_lt, slice_get}
 use Rattle.std.specs.Option.{option_map}
 use Rattle.std.proofs.lemmas.Bool.{both_ways, cases_lt, cond-true, false≢true, lt-ltb}
 use Rattle.std.proofs.lemmas.Option.{none-some, same_Some}
 use Rattle.bd_base.specs.declared.key.Key.{Key}
-use Rattle.bd_base.specs.declared.limits.TheConstants.{POSTS}
 use Rattle.bd_base.specs.declared.journal.At.{At}
 use Rattle.bd_base.specs.declared.script.Call.{Call}
 use Rattle.bd_base.specs.declared.script.Call.TheVariants.{Truncate}
@@ -15,7 +14,7 @@ use Rattle.bd_entry.specs.declared.act.Act.{Act}
 use Rattle.bd_entry.specs.declared.act.Act.TheVariants as acts
 use Rattle.bd_entry.specs.declared.entry.Entry.{Entry}
 use Rattle.bd_entry.specs.declared.entry.Entry.TheVariants as entries
-use Rattle.bd_entry.specs.Actions.{is_none_of, entry_of_act, is_to_shrink, next_act, own_act, truncate_to}
+use Rattle.bd_entry.specs.Actions.{entry_of_act, is_to_shrink, next_act, own_act, truncate_to}
 use Rattle.bd_entry.specs.Calls.{Place, at_of, call_at, entries_of}
 use Rattle.bd_entry.specs.Refusals.{file_of, growth_reason_of, next_size}
 use Rattle.bd_entry.specs.Rules.{EntryRule, FitsCall, FitsStore, place_in}
@@ -24,11 +23,10 @@ use Rattle.bd_entry.specs.Store.{Store, blocks_in, size_in}
 use Rattle.bd_entry.proofs.NextActs.{map_from, map_or_from, next_cases, then_from}
 use Rattle.bd_entry.proofs.NextFiles.{cond_from}
 use Rattle.bd_turns.specs.declared.turn.Row.{Row}
-use Rattle.bd_turns.specs.declared.turn.Wait.TheVariants as waits
 use Rattle.bd_turns.specs.Added.{IsAdded}
 use Rattle.bd_turns.specs.Processors as processors
 use Rattle.bd_turns.specs.Processors.{Action, action_for, add_entry, clear, is_on, next_action, poll, post, revocation, row_of_entry, running_of, uncleared, unposted}
-use Rattle.bd_turns.specs.State.{Progress, State, holder_of, outstanding, progress_of}
+use Rattle.bd_turns.specs.State.{State, holder_of}
 use Rattle.bd_turns.proofs.RunningPlaces.{runs_at}
 use Rattle.bd_turns.proofs.OwnActs.{adds_by_act, is_by_no_act}
 use Rattle.bd_turns.proofs.ActionsOfCalls.{adds_for}

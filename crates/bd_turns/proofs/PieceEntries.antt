@@ -11,10 +11,9 @@ use Rattle.bd_base.specs.declared.script.Call.{Call}
 use Rattle.bd_base.specs.declared.script.Call.TheVariants.{Read, Write, RawRead, RawWrite}
 use Rattle.bd_base.specs.declared.volume.Volume.{Volume}
 use Rattle.bd_base.specs.Scripts.{IsCall, IsWithinLimits}
-use Rattle.bd_entry.specs.declared.act.Act.{Act}
 use Rattle.bd_entry.specs.declared.entry.Entry.{Entry}
 use Rattle.bd_entry.specs.declared.entry.Entry.TheVariants as entries
-use Rattle.bd_entry.specs.Actions.{entry_of_act, next_act, piece_numbers}
+use Rattle.bd_entry.specs.Actions.{piece_numbers}
 use Rattle.bd_entry.specs.Calls.{Place, are_all_answered, is_answer_of, is_answered, is_end_of, is_ended_by, is_made_by, call_at, piece_end, piece_of_call, pieces_of_call}
 use Rattle.bd_entry.specs.Promises.{is_whole_refusal}
 use Rattle.bd_entry.specs.Refusals.{file_of, goal_of, goal_of_call, is_next_for_kernel, kernel_piece, next_size}
@@ -33,19 +32,18 @@ use Rattle.bd_turns.specs.Processors as processors
 use Rattle.bd_turns.specs.Processors.{Action, action_for, next_action, row_of_entry, running_of}
 use Rattle.bd_turns.specs.Reached.{IsReached}
 use Rattle.bd_turns.specs.Rest.{end_of_call, growth_turns, kernel_turns, unanswered}
-use Rattle.bd_turns.specs.State.{Progress, State, has_ended, holder_of, outstanding, progress_of, running}
+use Rattle.bd_turns.specs.State.{Progress, State, has_ended, outstanding, progress_of, running}
 use Rattle.bd_turns.specs.Turns.{holds_after, holds_throughout, with_hold}
-use Rattle.bd_turns.proofs.ActionsOfCalls.{adds_for, throughout-no_pieces}
+use Rattle.bd_turns.proofs.ActionsOfCalls.{throughout-no_pieces}
 use Rattle.bd_turns.proofs.EffectiveTurns.{has_ended-by_end}
 use Rattle.bd_turns.proofs.EntriesOfCalls.{added_made}
 use Rattle.bd_turns.proofs.FilesOfCalls.{store_after}
 use Rattle.bd_turns.proofs.GrowthTurns.{growth-most, growth_falls, pieces_end}
-use Rattle.bd_turns.proofs.OwnActs.{adds_by_act, is_by_no_act}
+use Rattle.bd_turns.proofs.OwnActs.{is_by_no_act}
 use Rattle.bd_turns.proofs.PieceOwn.{PiecesFall}
 use Rattle.bd_turns.proofs.PieceTurns.{after, kernel_falls, kernel_grows, some_unanswered, untouched_less}
 use Rattle.bd_turns.proofs.PiecesThere.{not_all}
 use Rattle.bd_turns.proofs.ProcessorTurns.{none_as_processor_adds}
-use Rattle.bd_turns.proofs.Revocations.{revokes-adds}
 use Rattle.bd_turns.proofs.SizesAfter.{extended_size}
 use Rattle.bd_turns.proofs.StayingDescriptors.{whole_ends}
 use Rattle.bd_turns.proofs.RunningPlaces.{runs_at}

@@ -1,5 +1,5 @@
 -- What each kind of turn leaves of the turns that revocations take, for every test of rights.
-use Rattle.std.proofs.Common.{◌≡◌, ℕ, ◌+◌, ◌≤◌, Bool, true, false, List, [], ◌∷◌, ◌++◌, Option, None, Some, refl, sym, ap, ◌∙◌, subst, arith, ⊎_elim}
+use Rattle.std.proofs.Common.{◌≡◌, ℕ, ◌+◌, ◌≤◌, Bool, true, false, List, [], ◌∷◌, ◌++◌, Option, None, Some, refl, sym, ap, ◌∙◌, subst, arith}
 use Rattle.std.specs.Prelude.{drop}
 use Rattle.std.specs.Option.{option_map_or}
 use Rattle.std.specs.FinMap as fin
@@ -11,11 +11,9 @@ use Rattle.bd_base.specs.declared.volume.Volume.{Volume}
 use Rattle.bd_base.specs.Keys.{key_cmp_total}
 use Rattle.bd_entry.specs.declared.entry.Entry.{Entry}
 use Rattle.bd_entry.specs.declared.entry.Entry.TheVariants as entries
-use Rattle.bd_entry.specs.Actions.{next_act}
 use Rattle.bd_entry.specs.Calls.{Place}
 use Rattle.bd_entry.specs.Rules.{Rights}
 use Rattle.bd_entry.specs.Store.{Descriptor, Store, descriptor_at}
-use Rattle.bd_entry.proofs.NextActs.{then_from}
 use Rattle.bd_entry.proofs.Slots.{some_of}
 use Rattle.bd_tables.specs.declared.state.Right.{Right}
 use Rattle.bd_tables.specs.declared.state.RightState.{RightState}
@@ -28,21 +26,18 @@ use Rattle.bd_turns.specs.declared.turn.Row.{Row}
 use Rattle.bd_turns.specs.Added.{IsAdded}
 use Rattle.bd_turns.specs.Engines as engines
 use Rattle.bd_turns.specs.Engines.{invalidation_of}
-use Rattle.bd_turns.specs.Processors as processors
-use Rattle.bd_turns.specs.Processors.{action_for, is_posted, next_action, running_of}
+use Rattle.bd_turns.specs.Processors.{is_posted}
 use Rattle.bd_turns.specs.Reached.{IsReached}
 use Rattle.bd_turns.specs.Rest.{right_turns}
 use Rattle.bd_turns.specs.Sound.{IsRightOf}
-use Rattle.bd_turns.specs.State.{Posted, State, holder_of, running}
+use Rattle.bd_turns.specs.State.{Posted, State, running}
 use Rattle.bd_turns.specs.Turns.{attached_tables, may_write, posting_place, tables_after}
-use Rattle.bd_turns.proofs.ActionsOfCalls.{adds_for}
 use Rattle.bd_turns.proofs.AddedEntries.{is_detach}
 use Rattle.bd_turns.proofs.AttachTurns.{attached_slot}
 use Rattle.bd_turns.proofs.FilesOfCalls.{store_after}
 use Rattle.bd_turns.proofs.OtherTurns.{FailsAttached, LeavesRights}
 use Rattle.bd_turns.proofs.OwnRevocations as own
 use Rattle.bd_turns.proofs.RevocationTurns.{NoneRises, attach_rises_not, change_rises_not, post_rises_not, remove_rises_not, stay_rises_not}
-use Rattle.bd_turns.proofs.Revocations.{revokes-adds}
 use Rattle.bd_turns.proofs.RightsAfterTurns.{on_from, other_keys, state_set}
 use Rattle.bd_turns.proofs.RightsOfTurns.{KeepsTest, Lowers, front_posted, lowers_by}
 
