@@ -1,20 +1,19 @@
 -- What each turn leaves as it was: the script, and the entries that the journal has.
-use Rattle.std.proofs.Common.{◌≡◌, ℕ, ◌*◌, ◌-◌, Bool, true, false, List, [], ◌∷◌, ◌++◌, Option, None, Some, cond, refl, sym, ap, ◌∙◌, append_assoc}
-use Rattle.std.specs.Prelude.{nat_lt}
-use Rattle.std.specs.Option.{option_map_or, option_to_list}
+use Rattle.std.proofs.Common.{◌≡◌, ℕ, List, [], ◌∷◌, ◌++◌, Option, None, Some, refl, sym, ap, ◌∙◌, append_assoc}
+use Rattle.std.specs.Option.{option_to_list}
 use Rattle.std.proofs.lemmas.List.{append-nil}
 use Rattle.bd_entry.specs.declared.entry.Entry.{Entry}
 use Rattle.bd_entry.specs.Calls.{Place}
-use Rattle.bd_turns.specs.declared.turn.Event.{Event}
 use Rattle.bd_turns.specs.declared.turn.Turn.TheVariants.{Did}
-use Rattle.bd_turns.specs.Course.{after_events, visible}
+use Rattle.bd_turns.specs.Course.{visible}
 use Rattle.bd_turns.specs.Engines as engines
 use Rattle.bd_turns.specs.Engines.{Invalidation, Step, engine_step, invalidation_of}
 use Rattle.bd_turns.specs.Laws.{OtherTurnsChangeNothing, RunsOnlyAdd, ScriptsStay, TurnsOnlyAdd}
 use Rattle.bd_turns.specs.Processors as processors
 use Rattle.bd_turns.specs.Processors.{Action, next_action}
-use Rattle.bd_turns.specs.State.{State, running}
-use Rattle.bd_turns.specs.Turns.{Outcome, Nothing, Waiting, Acting, after_step, after_turn, answer_in, engine_outcome, entries_added, invalidation_outcome, outcome_of, outcome_of_action, outcome_of_invalidation, posting_place, process_count, processor_outcome, state_after, visible_of}
+use Rattle.bd_turns.specs.State.{State}
+use Rattle.bd_turns.specs.Turns.{Outcome, Nothing, Waiting, Acting, after_step, after_turn, answer_in, entries_added, outcome_of, outcome_of_action, outcome_of_invalidation, state_after, visible_of}
+use Rattle.bd_turns.proofs.Cases.{each_outcome}
 
 -- an outcome adds its entries at the end of the journal, and leaves the script
 record Grows (m : State) (outcome : Outcome) : Type 0 where
@@ -23,16 +22,6 @@ record Grows (m : State) (outcome : Outcome) : Type 0 where
 
 nothing_grows : (m : State) → Grows m Nothing
 nothing_grows m = record { journal = sym (append-nil m.journal); script = refl }
-
--- so does each of several outcomes, whichever comes
-of_option : {X : Type 0} (m : State) (f : X → Outcome) → ((x : X) → Grows m (f x)) → (slot : Option X) →
-    Grows m (option_map_or f slot Nothing)
-of_option m f each None = nothing_grows m
-of_option m f each (Some x) = each x
-
-of_cond : (m : State) (first : Bool) (one other : Outcome) → Grows m one → Grows m other → Grows m (cond first one other)
-of_cond m true one other a b = a
-of_cond m false one other a b = b
 
 action_grows : (m : State) (p : Place) (action : Action) → Grows m (outcome_of_action m p action)
 action_grows m p (processors.Adds row entry) = record { journal = refl; script = refl }
@@ -55,35 +44,15 @@ invalidation_grows m p (engines.Changes row tables) = record { journal = sym (ap
 invalidation_grows m p (engines.Ends entry tables) = record { journal = refl; script = refl }
 invalidation_grows m p (engines.WaitsFor wait) = record { journal = sym (append-nil m.journal); script = refl }
 
-processor_grows : (m : State) (process : ℕ) → Grows m (processor_outcome m process)
-processor_grows m process =
-    of_option m (λ p. option_map_or (outcome_of_action m p) (next_action m p) Nothing)
-    (λ p. of_option m (outcome_of_action m p) (action_grows m p) (next_action m p))
-    (running m process)
-
-engine_grows : (m : State) (process : ℕ) → Grows m (engine_outcome m process)
-engine_grows m process =
-    let after : Place → Step → Outcome =
-    λ p step. Acting step.row (after_step m p step) (option_to_list step.entry) in
-    of_option m (λ p. option_map_or (after p) (engine_step m p) Nothing)
-    (λ p. of_option m (after p) (step_grows m p) (engine_step m p))
-    (running m process)
-
-invalidations_grow : (m : State) → Grows m (invalidation_outcome m)
-invalidations_grow m =
-    of_option m (λ p. option_map_or (outcome_of_invalidation m p) (invalidation_of m.tables m.posted) Nothing)
-    (λ p. of_option m (outcome_of_invalidation m p) (invalidation_grows m p) (invalidation_of m.tables m.posted))
-    (posting_place m)
-
 turn_grows : (m : State) (actor : ℕ) → Grows m (outcome_of m actor)
-turn_grows m actor =
-    let engine : ℕ = actor - process_count m in
-    let is_engine : Bool = nat_lt actor (2 * process_count m) in
-    of_cond m (nat_lt actor (process_count m)) (processor_outcome m actor)
-    (cond is_engine (engine_outcome m engine) (invalidation_outcome m))
-    (processor_grows m actor)
-    (of_cond m is_engine (engine_outcome m engine) (invalidation_outcome m) (engine_grows m engine)
-    (invalidations_grow m))
+turn_grows m =
+    each_outcome m (Grows m)
+    (record {
+      nothing = nothing_grows m;
+      action = λ p is action acting. action_grows m p action;
+      step = λ p is step acting. step_grows m p step;
+      invalidation = λ p is invalidation acting. invalidation_grows m p invalidation;
+    })
 
 pub turns_only_add : TurnsOnlyAdd
 turns_only_add m actor = (turn_grows m actor).journal

@@ -1,5 +1,5 @@
 -- What the device engines and the invalidation engine do next.
-use Rattle.std.specs.Prelude.{ℕ, ◌+◌, ◌/◌, nat_eq, cond, Bool, true, false, not, is_some, List, [], ◌∷◌, ◌++◌, map, length, position, slice_get, Option, None, Some}
+use Rattle.std.specs.Prelude.{ℕ, ◌/◌, nat_eq, cond, Bool, not, List, [], ◌∷◌, ◌++◌, position, Option, None, Some}
 use Rattle.std.specs.Option.{option_and_then, option_map, option_map_or}
 use Rattle.std.specs.FinMap as fin
 use Rattle.bd_base.specs.declared.journal.Found.{Found}
@@ -22,12 +22,12 @@ use Rattle.bd_tables.specs.declared.state.Right.{Right}
 use Rattle.bd_tables.specs.declared.state.RightState.{RightState}
 use Rattle.bd_tables.specs.declared.state.RightState.TheVariants as states
 use Rattle.bd_tables.specs.Effects as effects
-use Rattle.bd_tables.specs.State.{TableState, engines_in, found_entering, found_of, found_reading, lookup, request_of, told_of, walk_at}
+use Rattle.bd_tables.specs.State.{TableState, engines_in, found_entering, found_of, found_reading, lookup, told_of, walk_at}
 use Rattle.bd_turns.specs.declared.turn.Row.{Row}
 use Rattle.bd_turns.specs.declared.turn.Row.TheVariants as rows
 use Rattle.bd_turns.specs.declared.turn.Wait.{Wait}
 use Rattle.bd_turns.specs.declared.turn.Wait.TheVariants as waits
-use Rattle.bd_turns.specs.State.{Completed, InHand, Phase, Looking, Reading, Filling, Moving, Missing, Retiring, Completing, Posted, Progress, State, progress_of}
+use Rattle.bd_turns.specs.State.{InHand, Phase, Looking, Reading, Filling, Moving, Missing, Retiring, Completing, Posted, Progress, State, progress_of}
 
 -- what the turn of an engine does: it changes the tables and what is in its hand, adds an entry, or gives a completion
 -- back

@@ -5,4 +5,9 @@ pub mod Engines
 pub mod Turns
 pub mod Course
 pub mod Sound
+pub mod Rest
+pub mod Added
+pub mod Reached
 pub mod Laws
+pub mod Progress
+pub mod Names

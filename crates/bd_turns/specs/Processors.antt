@@ -1,6 +1,6 @@
 -- What a processor does next for its running call.
 use Rattle.std.specs.Prelude.{ℕ, min, nat_lt, cond, Bool, true, false, not, ◌||◌, List, [], ◌∷◌, length, Option, None, Some}
-use Rattle.std.specs.Option.{option_and_then, option_map, option_or}
+use Rattle.std.specs.Option.{option_and_then, option_map}
 use Rattle.std.specs.List.{find, list_any}
 use Rattle.std.specs.FinMap as fin
 use Rattle.bd_base.specs.declared.key.Key.{Key}
@@ -63,8 +63,8 @@ post m key = cond (nat_lt (length m.posted) POSTS) (Posts key) (WaitsFor (waits.
 abbrev pub clear : Place → Key → Action
 clear p key = Adds rows.Clear (entries.Cleared p.at key.process key.fd key.part)
 
--- the next turn of the revocation of these keys, which are still attached: each in order is cleared and posted, and then
--- all are waited for
+-- the next turn of the revocation of these keys, which are still attached: each in order is cleared and posted, and
+-- then all are waited for
 abbrev pub revocation : State → Place → List Key → Action
 revocation m p keys =
     option_or_else (option_map (post m) (unposted m keys))

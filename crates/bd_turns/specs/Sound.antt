@@ -1,37 +1,40 @@
 -- What holds of the abstract machine at every moment, and the laws of its turns.
-use Rattle.std.specs.Prelude.{◌≡◌, ◌≢◌, ◌⊎◌, ℕ, ◌<◌, ◌≤◌, nat_eq, Bool, true, false, ◌||◌, List, [], ◌∷◌, ◌++◌, map, length, count_by, slice_get, IsSome, IsTrue, All, Option, None, Some}
+use Rattle.std.specs.Prelude.{◌≡◌, ◌≢◌, ◌⊎◌, ℕ, ◌<◌, ◌≤◌, ◌/◌, nat_eq, Bool, true, false, ◌||◌, List, [], length, count_by, slice_get, IsSome, IsTrue, All, Option, None, Some}
 use Rattle.std.specs.List.{list_any}
 use Rattle.std.specs.FinMap as fin
-use Rattle.bd_base.specs.declared.journal.At.{At}
 use Rattle.bd_base.specs.declared.journal.Found.{Found}
+use Rattle.bd_base.specs.declared.journal.Found.TheVariants.{NoDirectory}
 use Rattle.bd_base.specs.declared.key.Cell.{Cell}
 use Rattle.bd_base.specs.declared.key.Key.{Key}
+use Rattle.bd_base.specs.declared.limits.TheConstants.{PART_BLOCKS}
 use Rattle.bd_base.specs.declared.script.Call.{Call}
-use Rattle.bd_base.specs.declared.script.Call.TheVariants.{Enter, Close, Truncate, Unlink}
-use Rattle.bd_base.specs.declared.script.How.TheVariants as hows
-use Rattle.bd_base.specs.declared.script.Mode.TheVariants.{Rw}
-use Rattle.bd_base.specs.declared.script.Script.{Script}
-use Rattle.bd_base.specs.Keys.{same_key}
+use Rattle.bd_base.specs.declared.script.Call.TheVariants.{Enter, Read, Truncate}
+use Rattle.bd_base.specs.Keys.{Pair, same_key}
 use Rattle.bd_base.specs.Scripts.{IsWithinLimits}
 use Rattle.bd_entry.specs.declared.entry.Entry.{Entry}
 use Rattle.bd_entry.specs.declared.entry.Entry.TheVariants as entries
-use Rattle.bd_entry.specs.Calls.{Place, call_at, calls_of, has_missed, is_answered, is_ended_by, pieces_of_call}
-use Rattle.bd_entry.specs.History.{InOrderSoFar, Legal}
-use Rattle.bd_entry.specs.Refusals.{file_of}
-use Rattle.bd_entry.specs.RulesOfRights.{HasRights}
-use Rattle.bd_entry.specs.Store.{Descriptor, Store, Valid, blocks_in, descriptor_at, has_open, has_part, limit_in}
+use Rattle.bd_entry.specs.Actions.{has_begun, is_for_device, keys_on}
+use Rattle.bd_entry.specs.Calls.{Place, calls_of, entries_of, has_missed, is_answered, is_ended_by, is_finished, opened_fd, pieces_of_call}
+use Rattle.bd_entry.specs.NextEntries.{stays_allowed}
+use Rattle.bd_entry.specs.Promises.{is_whole_refusal}
+use Rattle.bd_entry.specs.Refusals.{file_of, first_refusal}
+use Rattle.bd_entry.specs.RulesOfRights.{HasRights, TheDescriptor}
+use Rattle.bd_entry.specs.Store.{Descriptor, Store, Valid, blocks_in, descriptor_at, has_part, limit_in, size_in}
+use Rattle.bd_file_table.specs.Fragments.{Cells}
+use Rattle.bd_lines.specs.declared.lines.Line.{Line}
+use Rattle.bd_lines.specs.declared.lines.TheConstants.{LINES}
+use Rattle.bd_lines.specs.Lines.{LineList, line_at}
 use Rattle.bd_tables.specs.declared.request.Request.{Request}
 use Rattle.bd_tables.specs.declared.state.Right.{Right}
 use Rattle.bd_tables.specs.declared.state.RightState.{RightState}
 use Rattle.bd_tables.specs.declared.state.RightState.TheVariants as states
 use Rattle.bd_tables.specs.declared.state.Walk.TheVariants as walks
-use Rattle.bd_tables.specs.Sound.{IsSound}
-use Rattle.bd_tables.specs.State.{TableState, is_in, lookup, walk_at}
+use Rattle.bd_tables.specs.Sound.{IsOpen, IsSound, OnRight}
+use Rattle.bd_tables.specs.State.{TableState, lookup, pair_under, walk_at}
 use Rattle.bd_turns.specs.Engines.{request_of_piece}
-use Rattle.bd_entry.specs.Actions.{keys_on}
-use Rattle.bd_turns.specs.Processors.{is_posted}
+use Rattle.bd_turns.specs.Processors.{is_posted, running_of}
 use Rattle.bd_turns.specs.State.{Completed, InHand, Phase, Looking, Reading, Filling, Moving, Missing, Retiring, Completing, Posted, Progress, State, does_hold, has_ended, outstanding, progress_of, running}
-use Rattle.bd_turns.specs.Turns.{SomeActorActs, after_turn, answer_of, LowersRest, process_count, may_write}
+use Rattle.bd_turns.specs.Turns.{holds_throughout, may_write, process_count}
 
 -- ---- rights and the tables
 
@@ -46,8 +49,8 @@ is_revoked states.On = false
 is_revoked states.Cleared = true
 is_revoked (states.Drained swept) = true
 
--- a right of the tables is the one of the descriptor in the store: attached, of its file, in its mode, and cleared there
--- exactly where it is revoked
+-- a right of the tables is the one of the descriptor in the store: attached, of its file, in its mode, and cleared
+-- there exactly where it is revoked
 pub record IsRightOf (key : Key) (right : Right) (d : Descriptor) : Type 0 where
   pub file : right.file ≡ d.file
   pub write : right.write ≡ may_write d.mode
@@ -69,11 +72,34 @@ cell_of_block s file index = cell_from (limit_in s file index) (slice_get (block
     cell_from limit None = None
     cell_from limit (Some block) = Some (record { block = block; limit = limit })
 
--- the lookup of each attached key is the file's block of that index with its limit
+-- the lookup of each index of an attached key's part is the file's block of that index with its limit
 abbrev pub AreLookupsOf : State → Type 0
 AreLookupsOf m =
     (key : Key) (right : Right) (index : ℕ) → fin.get m.tables.rights key ≡ Some right →
-    lookup m.tables key index ≡ cell_of_block m.store right.file index
+    index / PART_BLOCKS ≡ key.part → lookup m.tables key index ≡ cell_of_block m.store right.file index
+
+-- the pair of each attached key is in use, with a cell for each block of a part
+abbrev pub AreWhole : State → Type 0
+AreWhole m =
+    (key : Key) (right : Right) → fin.get m.tables.rights key ≡ Some right →
+    (cells : Cells) × (fin.get m.tables.cells (pair_under key right) ≡ Some cells) × (length cells ≡ PART_BLOCKS)
+
+-- each line of the cache is about a block of the part of its key
+abbrev pub AreLinesOfParts : LineList → Type 0
+AreLinesOfParts lines =
+    (c : ℕ) (line : Line) → line_at lines c ≡ Some line → line.index / PART_BLOCKS ≡ line.key.part
+
+-- a drained key has a mark for each line of the cache
+abbrev pub AreMarked : State → Type 0
+AreMarked m =
+    (key : Key) (right : Right) (swept : List Bool) → fin.get m.tables.rights key ≡ Some right →
+    right.state ≡ states.Drained swept → length swept ≡ LINES
+
+-- the pairs in use are those that some attached key is about
+abbrev pub AreUsed : State → Type 0
+AreUsed m =
+    (pair : Pair) → fin.contains_key m.tables.cells pair ≡ true →
+    (key : Key) × (right : Right) × (fin.get m.tables.rights key ≡ Some right) × (pair_under key right ≡ pair)
 
 -- ---- engines
 
@@ -106,6 +132,13 @@ MayNote m =
     walk_at m.tables.walks p.at.process ≡ walks.Refused request found →
     HasRights m.store p (entries.Missed p.at hand.piece found)
 
+-- an engine that was refused although it found its right is in a key that is attached and not drained
+abbrev pub AreInOpenKeys : State → Type 0
+AreInOpenKeys m =
+    (process : ℕ) (request : Request) (found : Found) →
+    walk_at m.tables.walks process ≡ walks.Refused request found → found ≢ NoDirectory →
+    OnRight (λ right. IsOpen right.state) (fin.get m.tables.rights request.key)
+
 -- an engine without a command is in no key
 abbrev pub IsIdleWithout : State → Type 0
 IsIdleWithout m =
@@ -125,7 +158,8 @@ IsPostedState number states.On = ⊥
 IsPostedState number states.Cleared = Unit {0}
 IsPostedState number (states.Drained swept) = number ≡ 0
 
--- the posted keys differ; each is one that its running call cleared; only the front one may be drained
+-- the posted keys differ; each is one that its running call cleared, on the file that its process holds; only the front
+-- one may be drained
 pub record ArePosted (m : State) : Type 0 where
   pub differ : (i j : ℕ) (first second : Posted) → slice_get m.posted i ≡ Some first →
       slice_get m.posted j ≡ Some second → first.key ≡ second.key → i ≡ j
@@ -137,6 +171,8 @@ pub record ArePosted (m : State) : Type 0 where
   pub drained : (key : Key) (right : Right) (swept : List Bool) → fin.get m.tables.rights key ≡ Some right →
       right.state ≡ states.Drained swept →
       (post : Posted) × (slice_get m.posted 0 ≡ Some post) × (post.key ≡ key)
+  pub held : (number : ℕ) (post : Posted) (right : Right) → slice_get m.posted number ≡ Some post →
+      fin.get m.tables.rights post.key ≡ Some right → (progress_of m post.by.process).held ≡ Some right.file
 
 -- a right that is revoked is one that the running call of the process that holds its file cleared
 pub record IsBeingRevoked (m : State) (key : Key) (right : Right) : Type 0 where
@@ -155,23 +191,41 @@ AreRevokedByHolders m =
 -- of the rights that are revoked on one file at most one is not posted: the one that its call cleared last
 abbrev pub IsOneUnposted : State → Type 0
 IsOneUnposted m =
-    (first second : Key) (a b : Right) → fin.get m.tables.rights first ≡ Some a → fin.get m.tables.rights second ≡ Some b →
-    a.file ≡ b.file → is_revoked a.state ≡ true → is_revoked b.state ≡ true → is_posted m.posted first ≡ false →
-    is_posted m.posted second ≡ false → first ≡ second
+    (first second : Key) (a b : Right) → fin.get m.tables.rights first ≡ Some a →
+    fin.get m.tables.rights second ≡ Some b → a.file ≡ b.file → is_revoked a.state ≡ true →
+    is_revoked b.state ≡ true → is_posted m.posted first ≡ false → is_posted m.posted second ≡ false →
+    first ≡ second
 
 -- ---- holds
 
 -- no file is held by two processes
 abbrev pub IsHeldOnce : State → Type 0
 IsHeldOnce m =
-    (file first second : ℕ) → does_hold file (progress_of m first) ≡ true → does_hold file (progress_of m second) ≡ true →
-    first ≡ second
+    (file first second : ℕ) → does_hold file (progress_of m first) ≡ true →
+    does_hold file (progress_of m second) ≡ true → first ≡ second
 
 -- a process that holds a file has a running call, whose file that is
 abbrev pub AreHoldsOfCalls : State → Type 0
 AreHoldsOfCalls m =
     (process file : ℕ) → (progress_of m process).held ≡ Some file →
     (p : Place) × (running m process ≡ Some p) × (file_of m.store p ≡ Some file)
+
+-- a call that holds its file throughout does so once it has an entry
+abbrev pub AreBegunHolding : State → Type 0
+AreBegunHolding m =
+    (process : ℕ) (p : Place) → running m process ≡ Some p → holds_throughout p.call ≡ true → p.before ≢ [] →
+    (file : ℕ) × (file_of m.store p ≡ Some file) × ((progress_of m process).held ≡ Some file)
+
+-- whether the call is an open
+abbrev pub is_open : Call → Bool
+is_open (Enter name mode how) = true
+is_open call = false
+
+-- the descriptor that an open has opened is of the file of the open
+abbrev pub AreOpensOfFiles : State → Type 0
+AreOpensOfFiles m =
+    (process fd : ℕ) (p : Place) → running m process ≡ Some p → is_open p.call ≡ true → opened_fd p.before ≡ Some fd →
+    TheDescriptor (descriptor_at m.store process fd) (λ d. file_of m.store p ≡ Some d.file)
 
 -- ---- commands
 
@@ -205,30 +259,74 @@ pub record AreCommandsOfCalls (m : State) : Type 0 where
   pub of_running : (process : ℕ) (p : Place) → running m process ≡ Some p → AreCommands p (progress_of m process)
   pub none : (process : ℕ) → running m process ≡ None → outstanding (progress_of m process) ≡ []
 
+-- the commands of a read or a write that is not finished are of pieces that go to the device
+abbrev pub AreForDevice : State → Type 0
+AreForDevice m =
+    (process : ℕ) (p : Place) → running m process ≡ Some p → is_ended_by p.call p.before ≡ false →
+    All (λ piece. is_for_device m.store p piece ≡ true) (outstanding (progress_of m process))
+
+-- the calls that have ended are finished in the journal, which has no entry of a call after the running one
+pub record AreInTurn (m : State) : Type 0 where
+  pub finished : (process call : ℕ) → call < (progress_of m process).ended →
+      is_finished m.script m.journal (record { process = process; call = call }) ≡ true
+  pub later : (process call : ℕ) → (progress_of m process).ended < call →
+      entries_of (record { process = process; call = call }) m.journal ≡ []
+
 -- the running call has not ended
 abbrev pub AreUnended : State → Type 0
 AreUnended m =
     (process : ℕ) (p : Place) → running m process ≡ Some p →
     has_ended p.call p.before (progress_of m process) ≡ false
 
--- ---- calls that need a file without rights
+-- no running call was refused as a whole: that ends it, as nothing is outstanding then
+abbrev pub AreUnrefused : State → Type 0
+AreUnrefused m =
+    (process : ℕ) (p : Place) → running m process ≡ Some p → list_any is_whole_refusal p.before ≡ false
+
+-- a running call that cleared a right holds the file of that descriptor, which stays open meanwhile
+abbrev pub AreClearsHeld : State → Type 0
+AreClearsHeld m =
+    (process : ℕ) (p : Place) (key : Key) → running m process ≡ Some p →
+    list_any (is_clear_at key) p.before ≡ true →
+    (d : Descriptor) × (descriptor_at m.store key.process key.fd ≡ Some d)
+    × ((progress_of m process).held ≡ Some d.file)
+
+-- ---- calls that have begun
+
+-- whether the refusals of the call stay away once it has begun
+abbrev pub keeps_allowed : Call → Bool
+keeps_allowed (Read fd off len) = true
+keeps_allowed call = stays_allowed call
+
+-- no refusal of a call that has begun came to hold
+abbrev pub AreAllowed : State → Type 0
+AreAllowed m =
+    (process : ℕ) (p : Place) → running m process ≡ Some p → keeps_allowed p.call ≡ true →
+    has_begun (running_of m p) ≡ true → first_refusal m.store process p.call ≡ None
 
 -- whether the entry releases a block
 abbrev pub is_release : Entry → Bool
 is_release (entries.Released at file index block) = true
 is_release entry = false
 
--- no right is attached on the file of a truncation that has released a block
-abbrev pub IsFreeOfRights : State → Place → Call → Type 0
-IsFreeOfRights m p (Truncate fd size) =
-    list_any is_release p.before ≡ true → (file : ℕ) → file_of m.store p ≡ Some file → keys_on m.store file ≡ []
-IsFreeOfRights m p call = Unit {0}
+-- whether the entry clears a right
+abbrev pub is_clear : Entry → Bool
+is_clear (entries.Cleared at owner fd part) = true
+is_clear entry = false
 
--- the file of a removal that has begun is not open
-abbrev pub IsNotOpen : State → Place → Call → Type 0
-IsNotOpen m p (Unlink name) =
-    p.before ≢ [] → (file : ℕ) → file_of m.store p ≡ Some file → has_open m.store file ≡ false
-IsNotOpen m p call = Unit {0}
+-- no right is attached on the file of a truncation that has released a block; while one that has cleared a right has
+-- released none, its size is below that of the file
+pub record IsTruncating (s : Store) (p : Place) (size : ℕ) : Type 0 where
+  pub without_rights : list_any is_release p.before ≡ true → (file : ℕ) → file_of s p ≡ Some file →
+      keys_on s file ≡ []
+  pub lowers : list_any is_clear p.before ≡ true → list_any is_release p.before ≡ false → (file : ℕ) →
+      file_of s p ≡ Some file → size < size_in s file
+
+-- each running truncation is so
+abbrev pub AreTruncating : State → Type 0
+AreTruncating m =
+    (process : ℕ) (p : Place) (fd size : ℕ) → running m process ≡ Some p → p.call ≡ Truncate fd size →
+    IsTruncating m.store p size
 
 -- ---- all of it
 
@@ -238,39 +336,56 @@ pub record HasProcesses (m : State) : Type 0 where
   pub walks : length m.tables.walks ≡ process_count m
   pub ended : (process : ℕ) → (progress_of m process).ended ≤ length (calls_of m.script process)
 
--- what holds of a state at every moment, each for a reason of its own:
--- `valid`: entries are legal, and a legal entry keeps a store valid.
--- `rights`: an Attach, a Clear and a DetachDone change the store and the tables alike, and nothing else changes a right.
--- `lookups`: an Attach hands in the cells of the file's blocks; a growth fills or raises them in the same turn; and no
---    block of a file goes while a right on it is attached.
--- `tables`: the effects of bd_tables keep it: who is granted has a right that is not drained, what is held or cached is
---    an entry, and after its sweep no line names a drained key, since a fill needs an engine that is granted.
--- `hands`, `idle`: an engine changes its walk and its hand together.
--- `notable`: what a walk missed for stays so until it is noted, since a right that is not there when a piece enters does
---    not come while its process's call runs, and the known size stays too.
--- `posted`, `revoked`, `one_unposted`: only a call that holds the file clears its keys, each is posted in the next turn
---    of that call, and the invalidation engine works at the front alone.
--- `held_once`, `holds`: a call that would hold a file waits while another holds it.
--- `commands`, `unended`: a processor submits each piece once and polls each completion once, and ends its call when
---    nothing is left.
--- `free_of_rights`, `not_open`: the file is held, so no right on it is attached and no descriptor of it is opened.
-pub record Sound (m : State) : Type 0 where
+-- the script, the processes and the store. Entries are legal, and a legal entry keeps a store valid; a call ends once
+-- its entries end it and none of its commands is left, and only then comes the next. A call that is refused as a whole
+-- ends at once; one that cleared a right holds its file to the end, so nobody else closes that descriptor meanwhile.
+pub record AreCallsSound (m : State) : Type 0 where
   pub limits : IsWithinLimits m.script
   pub processes : HasProcesses m
   pub valid : Valid m.store
+  pub in_turn : AreInTurn m
+  pub commands : AreCommandsOfCalls m
+  pub for_device : AreForDevice m
+  pub unended : AreUnended m
+  pub unrefused : AreUnrefused m
+  pub clears_held : AreClearsHeld m
+
+-- the tables and the engines. An Attach, a Clear and a DetachDone change the store and the tables alike; an Attach
+-- hands in the cells of the file's blocks, a growth fills or raises them in the same turn, and no block of a file goes
+-- while a right on it is attached. The effects of the tables keep them sound: who is granted has a right that is not
+-- drained, what is held or cached is an entry, and after its sweep no line names a drained key, since a fill needs an
+-- engine that is granted. What a walk missed for stays so until it is noted, since a right that is not there when a
+-- piece enters does not come while its process's call runs, and the known size stays too.
+pub record AreTablesSound (m : State) : Type 0 where
   pub rights : AreRightsOf m
   pub lookups : AreLookupsOf m
+  pub whole : AreWhole m
+  pub used : AreUsed m
+  pub lines : AreLinesOfParts m.tables.lines
+  pub marked : AreMarked m
   pub tables : IsSound m.tables
   pub hands : (process : ℕ) (p : Place) (hand : InHand) → running m process ≡ Some p →
       (progress_of m process).hand ≡ Some hand → IsWalkFor m p hand
   pub idle : IsIdleWithout m
   pub notable : MayNote m
+  pub open_keys : AreInOpenKeys m
+
+-- revocation and holds. A call that would hold a file waits while another holds it; only a call that holds the file
+-- clears rights on it, each is posted in the next turn of that call, and the invalidation engine works at the front
+-- alone. So what a call found of its file as it began stays.
+pub record AreHoldsSound (m : State) : Type 0 where
   pub posted : ArePosted m
   pub revoked : AreRevokedByHolders m
   pub one_unposted : IsOneUnposted m
   pub held_once : IsHeldOnce m
   pub holds : AreHoldsOfCalls m
-  pub commands : AreCommandsOfCalls m
-  pub unended : AreUnended m
-  pub free_of_rights : (process : ℕ) (p : Place) → running m process ≡ Some p → IsFreeOfRights m p p.call
-  pub not_open : (process : ℕ) (p : Place) → running m process ≡ Some p → IsNotOpen m p p.call
+  pub begun_holding : AreBegunHolding m
+  pub opened : AreOpensOfFiles m
+  pub allowed : AreAllowed m
+  pub truncating : AreTruncating m
+
+-- what holds of a state at every moment
+pub record Sound (m : State) : Type 0 where
+  pub calls : AreCallsSound m
+  pub tables_are : AreTablesSound m
+  pub holds_are : AreHoldsSound m

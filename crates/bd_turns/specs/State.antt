@@ -1,5 +1,5 @@
 -- The state of the abstract machine.
-use Rattle.std.specs.Prelude.{ℕ, Bool, true, false, not, ◌&&◌, nat_eq, cond, List, [], ◌∷◌, ◌++◌, map, length, position, slice_get, slice_index_or, slice_set, replicate, Option, None, Some}
+use Rattle.std.specs.Prelude.{ℕ, Bool, false, ◌&&◌, nat_eq, List, [], ◌∷◌, ◌++◌, map, position, slice_index_or, slice_set, replicate, Option, None, Some}
 use Rattle.std.specs.Option.{option_map, option_map_or}
 use Rattle.std.specs.FinMap as fin
 use Rattle.bd_base.specs.declared.journal.At.{At}
@@ -9,10 +9,9 @@ use Rattle.bd_base.specs.declared.script.Process.{Process}
 use Rattle.bd_base.specs.declared.script.Script.{Script}
 use Rattle.bd_entry.specs.declared.entry.Entry.{Entry}
 use Rattle.bd_entry.specs.Actions.{is_none_of}
-use Rattle.bd_entry.specs.Calls.{Place, call_at, entries_of, fd_of, is_ended_by, piece_of_call, pieces_of_call}
-use Rattle.bd_entry.specs.Store.{Descriptor, Store, descriptor_at}
+use Rattle.bd_entry.specs.Calls.{Place, call_at, entries_of, is_ended_by}
+use Rattle.bd_entry.specs.Store.{Store}
 use Rattle.bd_lines.specs.declared.lines.TheConstants.{LINES}
-use Rattle.bd_tables.specs.declared.state.Right.{Right}
 use Rattle.bd_tables.specs.declared.state.Walk.TheVariants as walks
 use Rattle.bd_tables.specs.State.{TableState}
 
@@ -36,9 +35,9 @@ pub record InHand : Type 0 where
   pub piece : ℕ
   pub phase : Phase
 
--- how far a process is: how many of its calls have ended, how many effective turns were taken in the name of the running
--- one, which file it holds, if any, and where its commands are, by their pieces: submitted and not taken, in its engine's
--- hand, completed and not polled
+-- how far a process is: how many of its calls have ended, how many effective turns were taken in the name of the
+-- running one, which file it holds, if any, and where its commands are, by their pieces: submitted and not taken, in
+-- its engine's hand, completed and not polled
 pub record Progress : Type 0 where
   pub ended : ℕ
   pub used : ℕ
@@ -52,8 +51,8 @@ pub record Posted : Type 0 where
   pub key : Key
   pub by : At
 
--- a state: the script, which no turn changes, the plain store, the journal so far, the translation tables (rights, cells,
--- cache lines and walks), how far each process is, and the posted invalidations in order
+-- a state: the script, which no turn changes, the plain store, the journal so far, the translation tables (rights,
+-- cells, cache lines and walks), how far each process is, and the posted invalidations in order
 pub record State : Type 0 where
   pub script : Script
   pub store : Store
@@ -116,10 +115,10 @@ abbrev pub pieces_in_hand : Option InHand → List ℕ
 pieces_in_hand None = []
 pieces_in_hand (Some hand) = hand.piece ∷ []
 
--- the pieces of commands that are not polled yet
+-- the pieces of commands that are not polled yet, in the order in which they were submitted
 abbrev pub outstanding : Progress → List ℕ
 outstanding progress =
-    progress.submitted ++ pieces_in_hand progress.hand ++ map (λ (done : Completed). done.piece) progress.completed
+    map (λ (done : Completed). done.piece) progress.completed ++ pieces_in_hand progress.hand ++ progress.submitted
 
 -- whether a call with these entries has ended: they end it, and no command of it is outstanding
 abbrev pub has_ended : Call → List Entry → Progress → Bool

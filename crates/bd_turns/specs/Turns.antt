@@ -9,14 +9,13 @@ use Rattle.bd_base.specs.declared.script.Call.{Call}
 use Rattle.bd_base.specs.declared.script.Call.TheVariants.{Enter, Create, Read, Write, Truncate, Unlink, Size, Map, Close, RawRead, RawWrite}
 use Rattle.bd_base.specs.declared.script.Mode.{Mode}
 use Rattle.bd_base.specs.declared.script.Mode.TheVariants.{R, Rw}
-use Rattle.bd_base.specs.declared.script.Script.{Script}
 use Rattle.bd_entry.specs.declared.entry.Entry.{Entry}
 use Rattle.bd_entry.specs.declared.entry.Entry.TheVariants as entries
 use Rattle.bd_entry.specs.Calls.{Place, call_at, calls_of, entries_of}
 use Rattle.bd_entry.specs.Effects.{effect_of}
 use Rattle.bd_entry.specs.Refusals.{file_of}
 use Rattle.bd_entry.specs.Rules.{place_in}
-use Rattle.bd_entry.specs.Store.{Descriptor, Store, blocks_in, descriptor_at, limit_in, size_in}
+use Rattle.bd_entry.specs.Store.{Descriptor, Store, blocks_in, descriptor_at, limit_in}
 use Rattle.bd_tables.specs.Effects as effects
 use Rattle.bd_tables.specs.State.{TableState}
 use Rattle.bd_turns.specs.declared.turn.Row.{Row}
@@ -28,7 +27,7 @@ use Rattle.bd_turns.specs.Engines as engines
 use Rattle.bd_turns.specs.Engines.{Invalidation, Step, engine_step, invalidation_of}
 use Rattle.bd_turns.specs.Processors as processors
 use Rattle.bd_turns.specs.Processors.{Action, next_action}
-use Rattle.bd_turns.specs.State.{Completed, Posted, Progress, State, has_ended, place_of, progress_of, running, with_progress}
+use Rattle.bd_turns.specs.State.{Posted, Progress, State, has_ended, place_of, progress_of, running, with_progress}
 
 -- what an actor's turn comes to: nothing to do, a wait, or an effect by this row, after which the state is this one,
 -- with these entries added
@@ -74,8 +73,8 @@ attached_tables s tables process fd part d =
     effects.attach tables (record { process = process; fd = fd; part = part }) d.file (may_write d.mode)
     (cells_of_part s d.file part)
 
--- the tables after an entry that a processor adds, where s is the store after it: an attach, a clear and a growth change
--- them
+-- the tables after an entry that a processor adds, where s is the store after it: an attach, a clear and a growth
+-- change them
 abbrev pub tables_after : Store → TableState → Entry → TableState
 tables_after s tables (entries.Attached at fd part) =
     option_map_or (attached_tables s tables at.process fd part) (descriptor_at s at.process fd) tables
@@ -125,8 +124,8 @@ holds_throughout (Close fd) = true
 holds_throughout (RawRead address range) = false
 holds_throughout (RawWrite address lo bytes) = false
 
--- whether a turn of this row of a processor leaves its process with a hold, unless the call ends: a write holds its file
--- between the growth and the access of one piece alone
+-- whether a turn of this row of a processor leaves its process with a hold, unless the call ends: a write holds its
+-- file between the growth and the access of one piece alone
 abbrev pub holds_after : Call → Row → Bool
 holds_after call rows.Extend = true
 holds_after call row = holds_throughout call

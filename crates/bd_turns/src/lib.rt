@@ -2,7 +2,13 @@
 #![tactic(auto)]
 
 mod laws;
+mod progress_laws;
+mod promises;
 mod turn;
+mod turn_laws;
 
 pub use laws::{journal_grows, one_course, turns_without_effect};
+pub use progress_laws::{never_stuck, rest_falls};
+pub use promises::{held_translations_are_current, released_blocks_are_unnamed};
 pub use turn::{Event, EventList, Row, Turn, Wait};
+pub use turn_laws::{boot_is_reached, turns_add_legally, turns_keep_it};

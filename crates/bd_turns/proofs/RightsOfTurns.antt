@@ -1,0 +1,184 @@
+-- What a turn does to the turns that revocations take: those of its own call fall, and those of another call rise not.
+use Rattle.std.proofs.Common.{◌≡◌, ◌≢◌, ℕ, ◌+◌, ◌<◌, ◌≤◌, Bool, true, false, not, cond, List, ◌∷◌, length, Option, None, Some, refl, sym, ap, ◌∙◌, subst, arith, get_or, set}
+use Rattle.std.specs.Prelude.{count_by, nat_eq, position}
+use Rattle.std.specs.Option.{option_map_or}
+use Rattle.std.specs.FinMap as fin
+use Rattle.std.proofs.lemmas.Bool.{cond-true, or_left}
+use Rattle.std.proofs.lemmas.List.Quantifiers.{position-Some}
+use Rattle.std.proofs.lemmas.List.Sums.{sum_by-set}
+use Rattle.std.proofs.lemmas.Option.{none-some, same_Some}
+use Rattle.bd_base.specs.declared.key.Key.{Key}
+use Rattle.bd_base.specs.Keys.{key_cmp_total, same_key}
+use Rattle.bd_entry.specs.declared.entry.Entry.{Entry}
+use Rattle.bd_entry.specs.Calls.{Place}
+use Rattle.bd_entry.proofs.NextActs.{then_from}
+use Rattle.bd_tables.specs.declared.state.Right.{Right}
+use Rattle.bd_tables.specs.declared.state.RightState.{RightState}
+use Rattle.bd_tables.specs.declared.state.RightState.TheVariants as states
+use Rattle.bd_tables.specs.Effects as effects
+use Rattle.bd_tables.specs.State.{TableState, engines_in}
+use Rattle.bd_tables.proofs.Maps.{other_key-change}
+use Rattle.bd_turns.specs.declared.turn.Row.{Row}
+use Rattle.bd_turns.specs.declared.turn.Row.TheVariants as rows
+use Rattle.bd_turns.specs.declared.turn.Wait.TheVariants as waits
+use Rattle.bd_turns.specs.Engines as engines
+use Rattle.bd_turns.specs.Engines.{Invalidation, detach, drain, invalidate, invalidation_of, sweep_or_detach}
+use Rattle.bd_turns.specs.Processors.{is_posted}
+use Rattle.bd_turns.specs.Rest.{right_turns}
+use Rattle.bd_turns.specs.State.{Posted, State}
+use Rattle.bd_turns.proofs.RevocationTurns.{NoneRises, attach_rises_not, change_rises_not, post_rises_not, remove_rises_not, same_key-self, stay_rises_not}
+use Rattle.bd_turns.proofs.RightsAfterTurns.{Changes, attaches, clears, detaches, leaves, moves, other_keys, posts, state_set}
+
+-- ---- the state of the right at the front
+
+-- whether an invalidation changes the tables, and to which
+abbrev changed_to : Invalidation → Option TableState
+changed_to (engines.Changes row tables) = Some tables
+changed_to invalidation = None
+
+-- the right of the request at the front has another state in these tables, which takes fewer turns
+pub record Lowers (tables after : TableState) (key : Key) (right : Right) : Type 0 where
+  pub state : RightState
+  pub now : fin.get after.rights key ≡ Some (record right { state = state })
+  pub others : (other : Key) → other ≢ key → fin.get after.rights other ≡ fin.get tables.rights other
+  pub less : right_turns true state + 1 ≤ right_turns true right.state
+
+drained_turns : count_by not effects.none_swept ≡ 16
+drained_turns = refl
+
+-- one line more is swept
+swept_turns : (swept : List Bool) (line : ℕ) → position not swept ≡ Some line → count_by not (set swept line true) + 1 ≡ count_by not swept
+swept_turns swept line is =
+    let found = position-Some not swept line true is in
+    let one : Bool → ℕ = λ b. cond (not b) 1 0 in
+    let here : one (get_or swept line true) ≡ 1 = cond-true (not (get_or swept line true)) 1 0 found.1 in
+    let within : line < length swept = found.0 in
+    let sums : count_by not (set swept line true) + one (get_or swept line true) ≡ count_by not swept + 0 =
+    sum_by-set one swept line true true within in
+    omega (arith, here, sums)
+
+pub lowers_by : (tables after : TableState) (post : Posted) (right : Right) → fin.get tables.rights post.key ≡ Some right → (state : RightState) →
+    right.state ≡ state → (i : Invalidation) → invalidate tables post state ≡ Some i → changed_to i ≡ Some after → Lowers tables after post.key right
+lowers_by tables after post right there states.On is i does to = absurd (none-some i does)
+lowers_by tables after post right there states.Cleared is i does to =
+    by (nat_eq (engines_in tables.walks post.key) 0) (ap changed_to (same_Some (drain tables post.key) i does) ∙ to)
+  where
+    drained : RightState
+    drained = states.Drained effects.none_swept
+
+    by : (b : Bool) →
+        changed_to
+        (cond b (engines.Changes rows.Drain (effects.drain tables post.key)) (engines.WaitsFor (waits.InFlight post.key (engines_in tables.walks post.key))))
+        ≡ Some after → Lowers tables after post.key right
+    by false to = absurd (none-some after to)
+    by true to =
+        let same : effects.drain tables post.key ≡ after = same_Some (effects.drain tables post.key) after to in
+        let old : right_turns true right.state ≡ 18 = ap (right_turns true) is in
+        record {
+          state = drained;
+          now =
+              ap (λ (t : TableState). fin.get t.rights post.key) (sym same)
+              ∙ state_set tables.rights post.key (λ (r : Right). record r { state = drained }) right there;
+          others = λ other differ.
+              ap (λ (t : TableState). fin.get t.rights other) (sym same)
+              ∙ other_key-change key_cmp_total tables.rights post.key (λ (r : Right). record r { state = drained }) other (other_keys other post.key differ);
+          less = omega (arith, old, drained_turns);
+        }
+lowers_by tables after post right there (states.Drained swept) is i does to =
+    by (position not swept) refl (ap changed_to (same_Some (sweep_or_detach tables post swept) i does) ∙ to)
+  where
+    by : (o : Option ℕ) → position not swept ≡ o →
+        changed_to (option_map_or (λ line. engines.Changes (rows.Sweep line) (effects.sweep tables line post.key)) o (detach tables post)) ≡ Some after →
+        Lowers tables after post.key right
+    by None none to = absurd (none-some after to)
+    by (Some line) found to =
+        let same : effects.sweep tables line post.key ≡ after = same_Some (effects.sweep tables line post.key) after to in
+        let state : RightState = states.Drained (set swept line true) in
+        let old : right_turns true right.state ≡ count_by not swept + 1 = ap (right_turns true) is in
+        let fewer : count_by not (set swept line true) + 1 ≡ count_by not swept = swept_turns swept line found in
+        let f : Right → Right = λ r. record r { state = effects.sweep_state line r.state } in
+        record {
+          state = state;
+          now =
+              ap (λ (t : TableState). fin.get t.rights post.key) (sym same) ∙ state_set tables.rights post.key f right there
+              ∙ ap (λ (s : RightState). Some (record right { state = effects.sweep_state line s })) is;
+          others = λ other differ.
+              ap (λ (t : TableState). fin.get t.rights other) (sym same)
+              ∙ other_key-change key_cmp_total tables.rights post.key f other (other_keys other post.key differ);
+          less = omega (arith, old, fewer);
+        }
+
+-- a step of the invalidation engine that changes the tables lowers the turns of the right at the front
+abbrev pub LowersFront : State → State → Type 0
+LowersFront m next =
+    (post : Posted) (rest : List Posted) (right : Right) (state : RightState) → m.posted ≡ post ∷ rest →
+    fin.get m.tables.rights post.key ≡ Some right → fin.get next.tables.rights post.key ≡ Some (record right { state = state }) →
+    right_turns true state + 1 ≤ right_turns true right.state
+
+pub changes_lower : (m next : State) (row : Row) (tables : TableState) → invalidation_of m.tables m.posted ≡ Some (engines.Changes row tables) →
+    next.tables ≡ tables → LowersFront m next
+changes_lower m next row tables acting same post rest right state list there now =
+    let at_front : invalidation_of m.tables (post ∷ rest) ≡ Some (engines.Changes row tables) =
+    sym (ap (invalidation_of m.tables) list) ∙ acting in
+    let found = then_from (λ (r : Right). invalidate m.tables post r.state) (fin.get m.tables.rights post.key) (engines.Changes row tables) at_front in
+    let mine : right ≡ found.0 = same_Some right found.0 (sym there ∙ found.1) in
+    let does : invalidate m.tables post right.state ≡ Some (engines.Changes row tables) =
+    ap (λ (r : Right). invalidate m.tables post r.state) mine ∙ found.2 in
+    let low = lowers_by m.tables tables post right there right.state refl (engines.Changes row tables) does refl in
+    let is : low.state ≡ state =
+    ap (λ (r : Right). r.state)
+    (same_Some (record right { state = low.state }) (record right { state = state })
+    (sym low.now ∙ ap (λ (t : TableState). fin.get t.rights post.key) (sym same) ∙ now)) in
+    subst (λ (s : RightState). right_turns true s + 1 ≤ right_turns true right.state) is low.less
+
+-- ---- all kinds of turns
+
+-- the test looks at what a right keeps as its state changes
+abbrev pub KeepsTest : (Key → Right → Bool) → Type 0
+KeepsTest test = (key : Key) (right : Right) (state : RightState) → test key (record right { state = state }) ≡ test key right
+
+pub front_posted : (posted : List Posted) (post : Posted) (rest : List Posted) → posted ≡ post ∷ rest → is_posted posted post.key ≡ true
+front_posted posted post rest is =
+    ap (λ (l : List Posted). is_posted l post.key) is ∙ or_left (same_key post.key post.key) (is_posted rest post.key) (same_key-self post.key)
+
+pub some_turns : (b : Bool) (state : RightState) → 1 ≤ right_turns b state
+some_turns b states.On = omega arith
+some_turns true states.Cleared = omega arith
+some_turns false states.Cleared = omega arith
+some_turns b (states.Drained swept) = omega arith
+
+module _ (m next : State) (p : Place) (entry : Option Entry) (front : LowersFront m next) (test : Key → Right → Bool) (keeps : KeepsTest test) where
+  -- no key takes more turns after a turn that attaches none of these rights
+  pub none_rises : ((key : Key) (right : Right) → fin.get m.tables.rights key ≡ None → fin.get next.tables.rights key ≡ Some right → test key right ≡ false) →
+      Changes m next p entry → NoneRises m.tables.rights m.posted next.tables.rights next.posted test
+  none_rises apart (leaves stays posted) =
+      subst (λ (l : List Posted). NoneRises m.tables.rights m.posted next.tables.rights l test) (sym posted)
+      (stay_rises_not m.tables.rights next.tables.rights m.posted test stays)
+  none_rises apart (attaches key right on none sets posted) =
+      subst (λ (l : List Posted). NoneRises m.tables.rights m.posted next.tables.rights l test) (sym posted)
+      (attach_rises_not m.tables.rights next.tables.rights m.posted key right test sets.here sets.others (apart key right none sets.here))
+  none_rises apart (clears key right is on sets posted entry_is none) =
+      let less : right_turns (is_posted m.posted key) states.Cleared ≤ right_turns (is_posted m.posted key) right.state =
+      cleared_less (is_posted m.posted key) right.state on in
+      subst (λ (l : List Posted). NoneRises m.tables.rights m.posted next.tables.rights l test) (sym posted)
+      (change_rises_not m.tables.rights next.tables.rights m.posted key right (record right { state = states.Cleared }) is sets.here sets.others test
+      (keeps key right states.Cleared) less)
+    where
+      cleared_less : (b : Bool) (state : RightState) → state ≡ states.On → right_turns b states.Cleared ≤ right_turns b state
+      cleared_less true state on = let is : right_turns true state ≡ 20 = ap (right_turns true) on in omega arith
+      cleared_less false state on = let is : right_turns false state ≡ 20 = ap (right_turns false) on in omega arith
+  none_rises apart (posts key passed stays posted unposted none) =
+      subst (λ (l : List Posted). NoneRises m.tables.rights m.posted next.tables.rights l test) (sym posted)
+      (post_rises_not m.tables.rights next.tables.rights m.posted (record { key = key; by = p.at }) stays test)
+  none_rises apart (moves post rest right swept is_front is revoked sets posted none) =
+      let low = front post rest right (states.Drained swept) is_front.posted_is is sets.here in
+      let there : is_posted m.posted post.key ≡ true = front_posted m.posted post rest is_front.posted_is in
+      let less : right_turns (is_posted m.posted post.key) (states.Drained swept) ≤ right_turns (is_posted m.posted post.key) right.state =
+      subst (λ (b : Bool). right_turns b (states.Drained swept) ≤ right_turns b right.state) (sym there) (omega (arith, low)) in
+      subst (λ (l : List Posted). NoneRises m.tables.rights m.posted next.tables.rights l test) (sym posted)
+      (change_rises_not m.tables.rights next.tables.rights m.posted post.key right (record right { state = states.Drained swept }) is sets.here sets.others test
+      (keeps post.key right (states.Drained swept)) less)
+  none_rises apart (detaches post rest right is_front is revoked sets posted) =
+      subst (λ (l : List Posted). NoneRises m.tables.rights l next.tables.rights next.posted test) (sym is_front.posted_is)
+      (subst (λ (l : List Posted). NoneRises m.tables.rights (post ∷ rest) next.tables.rights l test) (sym posted)
+      (remove_rises_not m.tables.rights next.tables.rights post rest sets.here sets.others test))
