@@ -126,6 +126,12 @@ fn replies_alone(rt: HostRuntime) -> Result<(), Fail> {
     Ok(())
 }
 
+/// The line of the cache after one hit and two misses.
+const ONE_HIT: &[u8] = b"cache hits 1 misses 2\n";
+
+/// The line of the cache where no engine looked into it.
+const NO_LOOK: &[u8] = b"cache hits 0 misses 0\n";
+
 /// The event of a turn of an engine.
 fn event(turn: u64, row: Row) -> Result<Event, Fail> {
     let actor = Actor::new(1).ok_or("an actor")?;
@@ -143,8 +149,8 @@ fn the_line_of_the_cache(rt: HostRuntime) -> Result<(), Fail> {
         event(12, Row::Look(Looked::Miss))?,
     ];
     let line = counts(alloc, &trace)?;
-    assert_eq!(rt; line.as_slice(), b"cache hits 1 misses 2\n");
+    assert_eq!(rt; line.as_slice(), ONE_HIT);
     let none = counts(alloc, &[])?;
-    assert_eq!(rt; none.as_slice(), b"cache hits 0 misses 0\n");
+    assert_eq!(rt; none.as_slice(), NO_LOOK);
     Ok(())
 }
