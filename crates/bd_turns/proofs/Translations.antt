@@ -65,14 +65,6 @@ request_is p number fd piece request fd_is piece_is is =
     ∙ ap (option_map (request_for p fd)) piece_is)
     ∙ is)
 
--- a walk that was told this translation holds it
-pub translated_walk : (walk : Walk) (completion : Completion) → told_of walk ≡ Some completion →
-    (request : Request) × (walk ≡ walks.Translated request completion)
-translated_walk walks.Idle completion is = absurd (none-some completion is)
-translated_walk (walks.Entered request) completion is = absurd (none-some completion is)
-translated_walk (walks.Refused request found) completion is = absurd (none-some completion is)
-translated_walk (walks.Translated request other) completion is = (request, ap (walks.Translated request) (same_Some other completion is))
-
 -- what a translation for a piece says of the store
 pub record IsTranslated (s : Store) (p : Place) (fd : ℕ) (piece : Piece) (completion : Completion) : Type 0 where
   pub d : Descriptor
