@@ -1,5 +1,5 @@
 -- What a turn does to the turns that revocations take: those of its own call fall, and those of another call rise not.
-use Rattle.std.proofs.Common.{◌≡◌, ◌≢◌, ℕ, ◌+◌, ◌<◌, ◌≤◌, Bool, true, false, not, cond, List, ◌∷◌, length, Option, None, Some, refl, sym, ap, ◌∙◌, subst, arith, get_or, set}
+use Rattle.std.proofs.Common.{◌≡◌, ◌≢◌, ℕ, ◌+◌, ◌<◌, ◌≤◌, Bool, true, false, not, cond, List, ◌∷◌, length, Option, None, Some, refl, sym, ap, ◌∙◌, arith, get_or, set}
 use Rattle.std.specs.Prelude.{count_by, nat_eq, position}
 use Rattle.std.specs.Option.{option_map_or}
 use Rattle.std.specs.FinMap as fin
@@ -9,25 +9,21 @@ use Rattle.std.proofs.lemmas.List.Sums.{sum_by-set}
 use Rattle.std.proofs.lemmas.Option.{none-some, same_Some}
 use Rattle.bd_base.specs.declared.key.Key.{Key}
 use Rattle.bd_base.specs.Keys.{key_cmp_total, same_key}
-use Rattle.bd_entry.specs.declared.entry.Entry.{Entry}
-use Rattle.bd_entry.specs.Calls.{Place}
-use Rattle.bd_entry.proofs.NextActs.{then_from}
 use Rattle.bd_tables.specs.declared.state.Right.{Right}
 use Rattle.bd_tables.specs.declared.state.RightState.{RightState}
 use Rattle.bd_tables.specs.declared.state.RightState.TheVariants as states
 use Rattle.bd_tables.specs.Effects as effects
 use Rattle.bd_tables.specs.State.{TableState, engines_in}
 use Rattle.bd_tables.proofs.Maps.{other_key-change}
-use Rattle.bd_turns.specs.declared.turn.Row.{Row}
 use Rattle.bd_turns.specs.declared.turn.Row.TheVariants as rows
 use Rattle.bd_turns.specs.declared.turn.Wait.TheVariants as waits
 use Rattle.bd_turns.specs.Engines as engines
 use Rattle.bd_turns.specs.Engines.{Invalidation, detach, drain, invalidate, invalidation_of, sweep_or_detach}
 use Rattle.bd_turns.specs.Processors.{is_posted}
 use Rattle.bd_turns.specs.Rest.{right_turns}
-use Rattle.bd_turns.specs.State.{Posted, State}
-use Rattle.bd_turns.proofs.RevocationTurns.{NoneRises, attach_rises_not, change_rises_not, post_rises_not, remove_rises_not, same_key-self, stay_rises_not}
-use Rattle.bd_turns.proofs.RightsAfterTurns.{Changes, attaches, clears, detaches, leaves, moves, other_keys, posts, state_set}
+use Rattle.bd_turns.specs.State.{Posted}
+use Rattle.bd_turns.proofs.RevocationTurns.{same_key-self}
+use Rattle.bd_turns.proofs.RightsAfterTurns.{other_keys, state_set}
 
 -- ---- the state of the right at the front
 

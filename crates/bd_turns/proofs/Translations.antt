@@ -4,7 +4,7 @@ use Rattle.std.specs.Prelude.{slice_get}
 use Rattle.std.specs.Option.{option_and_then, option_map}
 use Rattle.std.specs.FinMap as fin
 use Rattle.std.proofs.lemmas.Bool.{false≢true}
-use Rattle.std.proofs.lemmas.Option.{none-some, same_Some}
+use Rattle.std.proofs.lemmas.Option.{same_Some}
 use Rattle.bd_base.specs.declared.key.Cell.{Cell}
 use Rattle.bd_base.specs.declared.script.Mode.{Mode}
 use Rattle.bd_base.specs.declared.script.Mode.TheVariants.{R, Rw}
@@ -15,10 +15,9 @@ use Rattle.bd_entry.specs.Store.{Descriptor, Store, blocks_in, descriptor_at, ha
 use Rattle.bd_tables.specs.declared.request.Completion.{Completion}
 use Rattle.bd_tables.specs.declared.request.Request.{Request}
 use Rattle.bd_tables.specs.declared.state.Right.{Right}
-use Rattle.bd_tables.specs.declared.state.Walk.{Walk}
 use Rattle.bd_tables.specs.declared.state.Walk.TheVariants as walks
 use Rattle.bd_tables.specs.Sound.{IsHeldFor, IsOfEntry, IsWithin, OnRight, granted_of}
-use Rattle.bd_tables.specs.State.{cell_of, told_of, walk_at}
+use Rattle.bd_tables.specs.State.{cell_of, walk_at}
 use Rattle.bd_turns.specs.Engines.{request_for, request_of_piece}
 use Rattle.bd_turns.specs.Sound.{AreTablesSound, cell_of_block}
 use Rattle.bd_turns.specs.State.{State}
