@@ -1,5 +1,5 @@
 -- What a turn does to the turns that revocations take: those of its own call fall, and those of another call rise not.
-use Rattle.std.proofs.Common.{◌≡◌, ◌≢◌, ℕ, ◌+◌, ◌<◌, ◌≤◌, Bool, true, false, not, cond, List, ◌∷◌, length, Option, None, Some, refl, sym, ap, ◌∙◌, subst, arith, get_or, set}
+use Rattle.std.proofs.Common.{◌≡◌, ◌≢◌, ℕ, ◌+◌, ◌<◌, ◌≤◌, Bool, true, false, not, cond, List, ◌∷◌, length, Option, None, Some, refl, sym, ap, ◌∙◌, arith, get_or, set}
 use Rattle.std.specs.Prelude.{count_by, nat_eq, position}
 use Rattle.std.specs.Option.{option_map_or}
 use Rattle.std.specs.FinMap as fin
@@ -9,25 +9,21 @@ use Rattle.std.proofs.lemmas.List.Sums.{sum_by-set}
 use Rattle.std.proofs.lemmas.Option.{none-some, same_Some}
 use Rattle.bd_base.specs.declared.key.Key.{Key}
 use Rattle.bd_base.specs.Keys.{key_cmp_total, same_key}
-use Rattle.bd_entry.specs.declared.entry.Entry.{Entry}
-use Rattle.bd_entry.specs.Calls.{Place}
-use Rattle.bd_entry.proofs.NextActs.{then_from}
 use Rattle.bd_tables.specs.declared.state.Right.{Right}
 use Rattle.bd_tables.specs.declared.state.RightState.{RightState}
 use Rattle.bd_tables.specs.declared.state.RightState.TheVariants as states
 use Rattle.bd_tables.specs.Effects as effects
 use Rattle.bd_tables.specs.State.{TableState, engines_in}
 use Rattle.bd_tables.proofs.Maps.{other_key-change}
-use Rattle.bd_turns.specs.declared.turn.Row.{Row}
 use Rattle.bd_turns.specs.declared.turn.Row.TheVariants as rows
 use Rattle.bd_turns.specs.declared.turn.Wait.TheVariants as waits
 use Rattle.bd_turns.specs.Engines as engines
 use Rattle.bd_turns.specs.Engines.{Invalidation, detach, drain, invalidate, invalidation_of, sweep_or_detach}
 use Rattle.bd_turns.specs.Processors.{is_posted}
 use Rattle.bd_turns.specs.Rest.{right_turns}
-use Rattle.bd_turns.specs.State.{Posted, State}
-use Rattle.bd_turns.proofs.RevocationTurns.{NoneRises, attach_rises_not, change_rises_not, post_rises_not, remove_rises_not, same_key-self, stay_rises_not}
-use Rattle.bd_turns.proofs.RightsAfterTurns.{Changes, attaches, clears, detaches, leaves, moves, other_keys, posts, state_set}
+use Rattle.bd_turns.specs.State.{Posted}
+use Rattle.bd_turns.proofs.RevocationTurns.{same_key-self}
+use Rattle.bd_turns.proofs.RightsAfterTurns.{other_keys, state_set}
 
 -- ---- the state of the right at the front
 
@@ -108,29 +104,6 @@ lowers_by tables after post right there (states.Drained swept) is i does to =
           less = omega (arith, old, fewer);
         }
 
--- a step of the invalidation engine that changes the tables lowers the turns of the right at the front
-abbrev pub LowersFront : State → State → Type 0
-LowersFront m next =
-    (post : Posted) (rest : List Posted) (right : Right) (state : RightState) → m.posted ≡ post ∷ rest →
-    fin.get m.tables.rights post.key ≡ Some right → fin.get next.tables.rights post.key ≡ Some (record right { state = state }) →
-    right_turns true state + 1 ≤ right_turns true right.state
-
-pub changes_lower : (m next : State) (row : Row) (tables : TableState) → invalidation_of m.tables m.posted ≡ Some (engines.Changes row tables) →
-    next.tables ≡ tables → LowersFront m next
-changes_lower m next row tables acting same post rest right state list there now =
-    let at_front : invalidation_of m.tables (post ∷ rest) ≡ Some (engines.Changes row tables) =
-    sym (ap (invalidation_of m.tables) list) ∙ acting in
-    let found = then_from (λ (r : Right). invalidate m.tables post r.state) (fin.get m.tables.rights post.key) (engines.Changes row tables) at_front in
-    let mine : right ≡ found.0 = same_Some right found.0 (sym there ∙ found.1) in
-    let does : invalidate m.tables post right.state ≡ Some (engines.Changes row tables) =
-    ap (λ (r : Right). invalidate m.tables post r.state) mine ∙ found.2 in
-    let low = lowers_by m.tables tables post right there right.state refl (engines.Changes row tables) does refl in
-    let is : low.state ≡ state =
-    ap (λ (r : Right). r.state)
-    (same_Some (record right { state = low.state }) (record right { state = state })
-    (sym low.now ∙ ap (λ (t : TableState). fin.get t.rights post.key) (sym same) ∙ now)) in
-    subst (λ (s : RightState). right_turns true s + 1 ≤ right_turns true right.state) is low.less
-
 -- ---- all kinds of turns
 
 -- the test looks at what a right keeps as its state changes
@@ -146,39 +119,3 @@ some_turns b states.On = omega arith
 some_turns true states.Cleared = omega arith
 some_turns false states.Cleared = omega arith
 some_turns b (states.Drained swept) = omega arith
-
-module _ (m next : State) (p : Place) (entry : Option Entry) (front : LowersFront m next) (test : Key → Right → Bool) (keeps : KeepsTest test) where
-  -- no key takes more turns after a turn that attaches none of these rights
-  pub none_rises : ((key : Key) (right : Right) → fin.get m.tables.rights key ≡ None → fin.get next.tables.rights key ≡ Some right → test key right ≡ false) →
-      Changes m next p entry → NoneRises m.tables.rights m.posted next.tables.rights next.posted test
-  none_rises apart (leaves stays posted) =
-      subst (λ (l : List Posted). NoneRises m.tables.rights m.posted next.tables.rights l test) (sym posted)
-      (stay_rises_not m.tables.rights next.tables.rights m.posted test stays)
-  none_rises apart (attaches key right on none sets posted) =
-      subst (λ (l : List Posted). NoneRises m.tables.rights m.posted next.tables.rights l test) (sym posted)
-      (attach_rises_not m.tables.rights next.tables.rights m.posted key right test sets.here sets.others (apart key right none sets.here))
-  none_rises apart (clears key right is on sets posted entry_is none) =
-      let less : right_turns (is_posted m.posted key) states.Cleared ≤ right_turns (is_posted m.posted key) right.state =
-      cleared_less (is_posted m.posted key) right.state on in
-      subst (λ (l : List Posted). NoneRises m.tables.rights m.posted next.tables.rights l test) (sym posted)
-      (change_rises_not m.tables.rights next.tables.rights m.posted key right (record right { state = states.Cleared }) is sets.here sets.others test
-      (keeps key right states.Cleared) less)
-    where
-      cleared_less : (b : Bool) (state : RightState) → state ≡ states.On → right_turns b states.Cleared ≤ right_turns b state
-      cleared_less true state on = let is : right_turns true state ≡ 20 = ap (right_turns true) on in omega arith
-      cleared_less false state on = let is : right_turns false state ≡ 20 = ap (right_turns false) on in omega arith
-  none_rises apart (posts key passed stays posted unposted none) =
-      subst (λ (l : List Posted). NoneRises m.tables.rights m.posted next.tables.rights l test) (sym posted)
-      (post_rises_not m.tables.rights next.tables.rights m.posted (record { key = key; by = p.at }) stays test)
-  none_rises apart (moves post rest right swept is_front is revoked sets posted none) =
-      let low = front post rest right (states.Drained swept) is_front.posted_is is sets.here in
-      let there : is_posted m.posted post.key ≡ true = front_posted m.posted post rest is_front.posted_is in
-      let less : right_turns (is_posted m.posted post.key) (states.Drained swept) ≤ right_turns (is_posted m.posted post.key) right.state =
-      subst (λ (b : Bool). right_turns b (states.Drained swept) ≤ right_turns b right.state) (sym there) (omega (arith, low)) in
-      subst (λ (l : List Posted). NoneRises m.tables.rights m.posted next.tables.rights l test) (sym posted)
-      (change_rises_not m.tables.rights next.tables.rights m.posted post.key right (record right { state = states.Drained swept }) is sets.here sets.others test
-      (keeps post.key right (states.Drained swept)) less)
-  none_rises apart (detaches post rest right is_front is revoked sets posted) =
-      subst (λ (l : List Posted). NoneRises m.tables.rights l next.tables.rights next.posted test) (sym is_front.posted_is)
-      (subst (λ (l : List Posted). NoneRises m.tables.rights (post ∷ rest) next.tables.rights l test) (sym posted)
-      (remove_rises_not m.tables.rights next.tables.rights post rest sets.here sets.others test))

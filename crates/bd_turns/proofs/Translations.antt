@@ -4,7 +4,7 @@ use Rattle.std.specs.Prelude.{slice_get}
 use Rattle.std.specs.Option.{option_and_then, option_map}
 use Rattle.std.specs.FinMap as fin
 use Rattle.std.proofs.lemmas.Bool.{false≢true}
-use Rattle.std.proofs.lemmas.Option.{none-some, same_Some}
+use Rattle.std.proofs.lemmas.Option.{same_Some}
 use Rattle.bd_base.specs.declared.key.Cell.{Cell}
 use Rattle.bd_base.specs.declared.script.Mode.{Mode}
 use Rattle.bd_base.specs.declared.script.Mode.TheVariants.{R, Rw}
@@ -15,10 +15,9 @@ use Rattle.bd_entry.specs.Store.{Descriptor, Store, blocks_in, descriptor_at, ha
 use Rattle.bd_tables.specs.declared.request.Completion.{Completion}
 use Rattle.bd_tables.specs.declared.request.Request.{Request}
 use Rattle.bd_tables.specs.declared.state.Right.{Right}
-use Rattle.bd_tables.specs.declared.state.Walk.{Walk}
 use Rattle.bd_tables.specs.declared.state.Walk.TheVariants as walks
 use Rattle.bd_tables.specs.Sound.{IsHeldFor, IsOfEntry, IsWithin, OnRight, granted_of}
-use Rattle.bd_tables.specs.State.{cell_of, told_of, walk_at}
+use Rattle.bd_tables.specs.State.{cell_of, walk_at}
 use Rattle.bd_turns.specs.Engines.{request_for, request_of_piece}
 use Rattle.bd_turns.specs.Sound.{AreTablesSound, cell_of_block}
 use Rattle.bd_turns.specs.State.{State}
@@ -64,14 +63,6 @@ request_is p number fd piece request fd_is piece_is is =
     (ap (option_and_then (λ fd. option_map (request_for p fd) (piece_of_call p.call number))) fd_is
     ∙ ap (option_map (request_for p fd)) piece_is)
     ∙ is)
-
--- a walk that was told this translation holds it
-pub translated_walk : (walk : Walk) (completion : Completion) → told_of walk ≡ Some completion →
-    (request : Request) × (walk ≡ walks.Translated request completion)
-translated_walk walks.Idle completion is = absurd (none-some completion is)
-translated_walk (walks.Entered request) completion is = absurd (none-some completion is)
-translated_walk (walks.Refused request found) completion is = absurd (none-some completion is)
-translated_walk (walks.Translated request other) completion is = (request, ap (walks.Translated request) (same_Some other completion is))
 
 -- what a translation for a piece says of the store
 pub record IsTranslated (s : Store) (p : Place) (fd : ℕ) (piece : Piece) (completion : Completion) : Type 0 where

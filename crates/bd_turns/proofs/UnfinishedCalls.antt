@@ -47,10 +47,6 @@ write_end fd off bytes e ends = absurd (false≢true ends)
 abbrev tells_of : ℕ → Entry → Bool
 tells_of number e = is_answer_of number e || is_miss_of number e
 
--- what ends a raw command tells of its only piece
-abbrev OnlyFirst : Call → Type 0
-OnlyFirst call = (number : ℕ) → IsSome (piece_of_call call number) → number ≡ 0
-
 first_only : (only : Piece) (number : ℕ) → IsSome (slice_get (only ∷ []) number) → number ≡ 0
 first_only only zero is = refl
 first_only only (suc number) is = absurd (false≢true is)
