@@ -40,4 +40,6 @@ pub use running_call::RunningCall;
 pub use table::{DescriptorTable, Holder};
 
 #[cfg(test)]
+mod disk_tests;
+#[cfg(test)]
 mod tests;

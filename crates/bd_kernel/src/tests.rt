@@ -1,18 +1,20 @@
-//! What calls do first where there is no file and nothing is open.
+//! What calls do first where there is no file and nothing is open, and how far a call is.
 ghost use Rattle.std.specs.Prelude.{◌≡◌, ◌≤◌, IfOk, None, replicate};
 ghost use Rattle.bd_base.specs.declared.limits.TheConstants.{BLOCKS};
 ghost use Rattle.bd_base.specs.Scripts.{IsCall};
 
 use crate::{Descriptors, KernelCall};
-use bd_base::{Call, InodeList, List, OutOfMemory, Pid, Range, Reason, Vba};
-use bd_entry::Act;
+use bd_base::{
+    At, Bytes, Call, Fd, FileId, InodeList, List, OutOfMemory, Pid, Range, Reason, Vba, Way,
+};
+use bd_entry::{Act, Entry};
 use bd_fs::Fs;
 use std::alloc::Global;
 use std::process::Abort;
 use std::test::Fail;
 
 /// So many ids without a file.
-fn free_ids(alloc: Global, count: usize) -> Result<InodeList, OutOfMemory>
+pub(crate) fn free_ids(alloc: Global, count: usize) -> Result<InodeList, OutOfMemory>
     ensures { IfOk result (λ inodes. inodes ≡ replicate count None) }
 {
     let mut inodes: InodeList = List::new(alloc);
@@ -77,5 +79,37 @@ fn a_raw_command_is_submitted(rt: HostRuntime) -> Result<(), Fail> {
     let range = Range { lo: 0, hi: 8 };
     let act = first_act(&rt, &Call::RawRead { vba, range })?;
     assert!(rt; matches!(act, Some(Act::Submit(0))));
+    Ok(())
+}
+
+#[test]
+fn a_call_ends_once_its_command_is_polled(rt: HostRuntime) -> Result<(), Fail> {
+    let alloc = rt.alloc();
+    let process = Pid::new(1).ok_or("a process")?;
+    let read = Call::Read {
+        fd: 1,
+        off: 0,
+        len: 8,
+    };
+    let mut call = KernelCall::begin(alloc, &read, process, 7)?;
+    call.submitted(0);
+    assert_eq!(rt; call.least_outstanding(), 0);
+    assert!(rt; !call.finished());
+    call.note(&Entry::Access {
+        at: At { process, call: 0 },
+        piece: 0,
+        fd: Fd::new(1).ok_or("a descriptor")?,
+        file: FileId::new(0).ok_or("a file")?,
+        index: 0,
+        block: None,
+        range: Range { lo: 0, hi: 8 },
+        wrote: false,
+        way: Way::Direct,
+        bytes: Bytes::new(alloc),
+    });
+    assert!(rt; call.finished());
+    assert!(rt; !call.ended());
+    call.polled();
+    assert!(rt; call.ended());
     Ok(())
 }
