@@ -249,6 +249,14 @@ impl<M: Medium> Disk<M> {
         self.descriptors.give_up(process);
     }
 
+    /// The device, in place of the disk.
+    pub fn into_medium(self) -> M
+        ensures { M.contents result ≡ self.bytes }
+    {
+        let Disk { medium, .. } = self;
+        medium
+    }
+
     /// The bytes of the range of a block that is there. The only error is that no memory is found.
     pub fn read(&self, block: BlockNo, range: Range) -> Result<Bytes, OutOfMemory>
         requires { HasBlock self.now.bytes block }

@@ -1,7 +1,10 @@
--- The abstract machine, its runs, and the scripts that are read.
+-- The words of the contracts of the machine.
+pub mod Logs
+pub mod Shows
+pub mod Turns
+pub mod Kept
 pub mod Machine
-pub mod Course
-pub mod Simple
-pub mod Running
-pub mod Refusals
-pub mod Laws
+pub mod Tasks
+pub mod Engines
+pub mod Booted
+pub mod Whole

@@ -1,21 +1,21 @@
-//! The machine: processes whose calls are taken turn by turn, and the journal that they leave.
+//! The machine: it runs a script over a volume, one turn of one actor after the other.
 #![tactic(auto)]
 
-mod disk;
-mod files;
-pub mod laws;
+mod built;
+mod cells;
+mod course;
+mod engine;
+mod entries;
+mod log;
 mod machine;
-mod open_file;
+mod notes;
+mod parts;
+mod process;
 mod processor;
-mod rounds;
 mod run;
-mod simple_script;
-#[cfg(test)]
-mod tests;
-mod turn;
 
-pub use bd_script::ScriptError;
+pub use bd_turns::{Event, EventList, Row, Turn, Wait};
+pub use built::is_built;
+pub use course::replay;
 pub use machine::Machine;
-pub use rounds::replay;
-pub use simple_script::read_simple;
-pub use turn::{Event, EventList, Row, Turn};
+pub use run::Run;

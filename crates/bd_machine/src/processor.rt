@@ -1,129 +1,328 @@
-//! The turns of the process.
-ghost use Rattle.std.specs.Prelude.{◌≡◌, ◌<◌, ◌≤◌, ◌^◌, None, Some, IfOk, OnErr, length, slice_get, MatchOption};
-ghost use Rattle.std.specs.Option.{option_copied};
-ghost use Rattle.bd_base.specs.declared.volume.Inode.{Inode};
-ghost use Rattle.bd_base.specs.Files.{limit_of, parts_for};
-ghost use Rattle.bd_base.specs.Inodes.{id_of, inode_at};
-ghost use Rattle.bd_base.specs.Volumes.{IsInode, IsVolume};
-ghost use Rattle.bd_entry.specs.Calls.{calls_of};
-ghost use Rattle.bd_machine.specs.Running.{IsReached, Turned, moved_of};
+//! The turns of processors.
+ghost use Rattle.std.specs.Prelude.{◌≡◌, ◌<◌, ◌≢◌, IfOk, IsSome, OnErr, OnOk, Some, true, length};
+ghost use Rattle.bd_base.specs.declared.limits.TheConstants.{DESCRIPTORS, FILE_BLOCKS};
+ghost use Rattle.bd_base.specs.Pieces.{Piece};
+ghost use Rattle.bd_base.specs.Scripts.{IsCall, IsWithinLimits};
+ghost use Rattle.bd_entry.specs.declared.act.Act.TheVariants.{Poll, Submit as Submits};
+ghost use Rattle.bd_entry.specs.Calls.{Place, call_at, fd_of, piece_of_call};
+ghost use Rattle.bd_machine.specs.declared.process.Process.{Process};
+ghost use Rattle.bd_machine.specs.Shows.{IsCommandOf};
+ghost use Rattle.bd_machine.specs.Turns.{AreCellsFor, AttachesByOpen, CanChangeTables, HasBegun, IsAt, IsHeldAfter, IsNextAct, IsRunning, Sight, StaysAt, TableChange, TookTurn, adds_entry, process_in};
+ghost use Rattle.bd_tables.specs.Plain.{tables_of};
+ghost use Rattle.bd_turns.specs.Processors.{row_of_entry};
+ghost use Rattle.bd_turns.specs.State.{State};
+ghost use Rattle.bd_turns.specs.Turns.{holds_after, holds_throughout, may_write, tables_after};
 
-use crate::disk::Disk;
-use crate::files::part_count;
-use crate::run::{Moved, Run, attach_part, end_open, end_read, open_file};
-use crate::turn::{Row, Turn};
-use bd_base::{BLOCK_SIZE, Call, FileId, OutOfMemory, Range, Script};
+use crate::cells::cells_of_part;
+use crate::entries::entry_of_act;
+use crate::parts::Parts;
+use bd_base::{
+    Actor, At, BLOCK_SIZE, Call, Cell, FILE_BLOCKS, FileId, Key, Mode, OutOfMemory, Pid, Script,
+    Vba,
+};
+use bd_entry::{Act, Entry};
+use bd_kernel::{KernelCall, does_write, piece_of, size_of};
+use bd_medium::Plain;
+use bd_pieces::Piece;
+use bd_queue_pair::Command;
+use bd_tables::KernelSide;
+use bd_turns::{Row, Turn, Wait};
+use std::alloc::Global;
 
-/// The call of the process that has this number.
-fn call_of(script: &Script, number: u64) -> Option<&Call>
-    ensures { option_copied result ≡ slice_get (calls_of script.now 0) number }
-{
-    let process = script.processes.as_slice().first()?;
-    process.calls.as_slice().get(number as usize)
-}
+impl Parts {
+    /// One turn of a processor.
+    pub(crate) fn step_processor(&mut self, script: &Script, p: Pid) -> Result<Turn, OutOfMemory>
+        ghost m: { State }
+        requires state { IsAt script.now self.old m }
+        requires process { p < length script.now.processes }
+        ensures ok { IfOk result (λ turn. TookTurn script.now self.old self.new m p turn) }
+        ensures err { OnErr result (StaysAt script.now self.old self.new m) }
+    {
+        let calls = script.processes.as_slice()[p.get() as usize].calls.len();
+        if usize::from(self.processes[p.get() as usize].ended) == calls {
+            return Ok(Turn::Idle);
+        }
+        self.begin(script, p)?;
+        match self.next_act(p) {
+            Act::Busy(file, holder) => Ok(Turn::Waits(Wait::Busy(file, holder))),
+            Act::Submit(piece) => self.submit(script, p, piece),
+            Act::Poll => self.poll(p),
+            // No call that is built takes rights away.
+            Act::Revoke(_) => unreachable!(),
+            act => self.carry_out(script, p, act),
+        }
+    }
 
-/// How many calls the process has.
-pub(crate) fn call_count(script: &Script) -> u64
-    ensures { result ≡ length (calls_of script.now 0) }
-{
-    match script.processes.as_slice().first() {
-        Some(process) => process.calls.len() as u64,
-        None => 0,
+    /// Where the running call of the process is in the script.
+    pub(crate) fn at(&self, p: Pid) -> At
+        requires { p < length self.now.processes.items }
+        ensures { (y : Process) → process_in self.now p ≡ Some y
+            → result ≡ record { process = p; call = y.ended } }
+    {
+        At {
+            process: p,
+            call: self.processes[p.get() as usize].ended,
+        }
+    }
+
+    /// The running call is begun, where it is not yet.
+    fn begin(&mut self, script: &Script, p: Pid) -> Result<(), OutOfMemory>
+        ghost m: { State }
+        requires state { IsAt script.now self.old m }
+        requires process { p < length script.now.processes }
+        requires running { IsRunning m p }
+        ensures stays { StaysAt script.now self.old self.new m }
+        ensures begun { OnOk result (HasBegun self.new p) }
+    {
+        if self.processes[p.get() as usize].call.is_some() {
+            return Ok(());
+        }
+        let call = call_at(script, self.at(p));
+        let uid = script.processes.as_slice()[p.get() as usize].uid;
+        let begun = KernelCall::begin(self.alloc, call, p, uid)?;
+        self.processes[p.get() as usize].call = Some(begun);
+        Ok(())
+    }
+
+    /// What the running call, which was begun, does next.
+    fn next_act(&self, p: Pid) -> Act
+        ghost g: { Sight }
+        requires state { IsAt g.script self.now g.state }
+        requires begun { HasBegun self.now p }
+        ensures { IsNextAct g.state p result }
+    {
+        let call = self.processes[p.get() as usize].call.as_ref().unwrap();
+        call.next(self.disk.fs(), self.disk.descriptors()).unwrap()
+    }
+
+    /// The command of a piece is submitted.
+    fn submit(&mut self, script: &Script, p: Pid, piece: u8) -> Result<Turn, OutOfMemory>
+        ghost m: { State }
+        requires state { IsAt script.now self.old m }
+        requires begun { HasBegun self.old p }
+        requires act { IsNextAct m p (Submits piece) }
+        ensures ok { IfOk result (λ turn. TookTurn script.now self.old self.new m p turn) }
+        ensures err { OnErr result (StaysAt script.now self.old self.new m) }
+    {
+        self.log.reserve()?;
+        let call = call_at(script, self.at(p));
+        let it = &mut self.processes[p.get() as usize];
+        let running = it.call.as_mut().unwrap();
+        let command = command_of(call, running.fd().unwrap(), piece);
+        it.queue.submit(command);
+        running.submitted(piece);
+        Ok(self.end_turn(p, processor(p), Row::Submit))
+    }
+
+    /// The oldest completion is taken, where one has come.
+    fn poll(&mut self, p: Pid) -> Result<Turn, OutOfMemory>
+        ghost g: { Sight }
+        requires state { IsAt g.script self.old g.state }
+        requires begun { HasBegun self.old p }
+        requires act { IsNextAct g.state p Poll }
+        ensures ok { IfOk result (λ turn. TookTurn g.script self.old self.new g.state p turn) }
+        ensures err { OnErr result (StaysAt g.script self.old self.new g.state) }
+    {
+        self.log.reserve()?;
+        let it = &mut self.processes[p.get() as usize];
+        let running = it.call.as_mut().unwrap();
+        if it.queue.poll().is_none() {
+            return Ok(Turn::Waits(Wait::Completion(running.least_outstanding())));
+        }
+        running.polled();
+        Ok(self.end_turn(p, processor(p), Row::Poll))
+    }
+
+    /// An action that adds an entry is carried out.
+    fn carry_out(&mut self, script: &Script, p: Pid, act: Act) -> Result<Turn, OutOfMemory>
+        ghost m: { State }
+        requires state { IsAt script.now self.old m }
+        requires begun { HasBegun self.old p }
+        requires act { IsNextAct m p act }
+        requires adds { adds_entry act ≡ true }
+        ensures ok { IfOk result (λ turn. TookTurn script.now self.old self.new m p turn) }
+        ensures err { OnErr result (StaysAt script.now self.old self.new m) }
+    {
+        self.log.reserve()?;
+        let call = call_at(script, self.at(p));
+        let uid = script.processes.as_slice()[p.get() as usize].uid;
+        let running = self.processes[p.get() as usize].call.as_ref().unwrap();
+        let entry = entry_of_act(self.alloc, &self.disk, call, self.at(p), running.fd(), &act)?;
+        let row = row_of(&entry);
+        let held = self.file_to_hold(call, p, row);
+        let cells = self.cells_for(p, &entry)?;
+        self.disk.change(&entry, uid)?;
+        self.note(p, &entry);
+        self.change_tables(&entry, cells.as_slice());
+        self.log.add(entry);
+        self.hold(p, held);
+        Ok(self.end_turn(p, processor(p), row))
+    }
+
+    /// The file that the process holds after a turn of this row, unless its call ends.
+    fn file_to_hold(&self, call: &Call, p: Pid, row: Row) -> Option<FileId>
+        requires { HasBegun self.now p }
+        ensures { IsHeldAfter self.now call.now p row result }
+    {
+        if !holds_after(call, row) {
+            return None;
+        }
+        let running = self.processes[p.get() as usize].call.as_ref().unwrap();
+        running.file(self.disk.fs(), self.disk.descriptors())
+    }
+
+    /// The cells of the part that the entry attaches a right on; none for another entry.
+    fn cells_for(&self, p: Pid, entry: &Entry) -> Result<Vec<Cell>, OutOfMemory>
+        requires { AttachesByOpen self.now.disk p entry.now }
+        ensures { IfOk result (λ cells. AreCellsFor self.now.disk p entry.now cells.items) }
+    {
+        match entry {
+            Entry::Attached { fd, part, .. } => {
+                let descriptor = self.disk.descriptors().get(p, fd.get() as u8).unwrap();
+                cells_of_part(self.alloc, &self.disk, descriptor.file, *part)
+            }
+            _ => Ok(Vec::new(self.alloc)),
+        }
+    }
+
+    /// What the entry, which the disk shows already, changes in the tables.
+    fn change_tables(&mut self, entry: &Entry, cells: &[Cell])
+        ghost g: { TableChange }
+        requires { CanChangeTables self.old g entry.now cells.now }
+        ensures tables { tables_of self.new.tables ≡ tables_after g.after (tables_of self.old.tables) entry.now }
+        ensures same { self.new ≡ record self.old { tables = self.new.tables } }
+        ensures places { self.new.tables.places ≡ self.old.tables.places }
+    {
+        match entry {
+            Entry::Attached { at, fd, part } => {
+                let descriptor = self
+                    .disk
+                    .descriptors()
+                    .get(at.process, fd.get() as u8)
+                    .unwrap();
+                let key = Key {
+                    process: at.process,
+                    fd: *fd,
+                    part: *part,
+                };
+                let write = may_write(descriptor.mode);
+                match self.tables.attach(key, descriptor.file, write, cells) {
+                    Ok(()) => {}
+                    Err(_) => unreachable!(),
+                }
+            }
+            Entry::Extended {
+                file,
+                to,
+                block,
+                ..
+            } => {
+                let index = (*to - 1) / BLOCK_SIZE;
+                let limit = (*to - BLOCK_SIZE * index) as u16;
+                match block {
+                    Some(block) => {
+                        let cell = Cell {
+                            block: *block,
+                            limit,
+                        };
+                        self.tables.put_entry(*file, index as u32, cell);
+                    }
+                    None => self.tables.raise_limit(*file, index as u32, limit),
+                }
+            }
+            _ => {}
+        }
     }
 }
 
-/// The first `len` bytes of a file, at most a block.
-fn read_first(start: &Disk, file: FileId, len: u16) -> Result<Option<Moved>, OutOfMemory>
-    requires volume { IsVolume start.now }
-    requires some { 1 ≤ len }
-    requires one_block { len ≤ BLOCK_SIZE }
-    ensures { (f : Inode) → inode_at start.now.inodes file ≡ Some f → len ≤ f.size →
-        IfOk result (λ moved. moved ≡ Some (moved_of start.now file f len)) }
+/// The call of the script at this place, where it is there.
+pub(crate) fn call_at(script: &Script, at: At) -> &Call
+    requires { IsSome (call_at script.now at) }
+    ensures { call_at script.now at ≡ Some result.now }
 {
-    let Some(inode) = start.inode(file) else {
-        return Ok(None);
-    };
-    let Some(block) = inode.blocks.as_slice().first() else {
-        return Ok(None);
-    };
-    let Some(range) = Range::new(0, u64::from(len)) else {
-        return Ok(None);
-    };
-    let from = (block.get() * BLOCK_SIZE) as usize;
-    let bytes = start.bytes().copy_range(from, from + usize::from(len))?;
-    Ok(Some(Moved {
-        file,
-        block: *block,
-        range,
-        bytes,
-    }))
+    let process = &script.processes.as_slice()[at.process.get() as usize];
+    &process.calls.as_slice()[usize::from(at.call)]
 }
 
-/// A turn of an open: it opens the file, then attaches part by part, and at last tells how many are.
-fn enter_turn(start: &Disk, script: &Script, run: &mut Run, turn: u64) -> Result<Turn, OutOfMemory>
-    requires reached { IsReached start.now script.now run.old }
-    requires entering { run.old.ended ≡ 0 }
-    ensures turned { IfOk result (λ answer. Turned start.now script.now run.old run.new turn answer) }
-    ensures err { OnErr result (run.new ≡ run.old) }
+/// The processor of a process as an actor.
+fn processor(p: Pid) -> Actor
+    ensures { result ≡ p }
 {
-    let Some(Call::Enter { name, mode, how }) = call_of(script, run.ended) else {
-        return Ok(Turn::Idle);
-    };
-    let Some(opened) = run.opened else {
-        let Some(file) = start.find(name) else {
-            return Ok(Turn::Idle);
-        };
-        let Some(inode) = start.inode(file) else {
-            return Ok(Turn::Idle);
-        };
-        open_file(run, turn, file, *mode, *how, inode.size)?;
-        return Ok(Turn::Did(Row::Opened));
-    };
-    let Some(inode) = start.inode(opened.file) else {
-        return Ok(Turn::Idle);
-    };
-    if u64::from(opened.attached) < part_count(inode.blocks.as_slice()) {
-        attach_part(run, turn, &opened)?;
-        return Ok(Turn::Did(Row::Attach));
+    Actor::new(p.get()).unwrap()
+}
+
+/// The command of a piece of a call by this descriptor.
+fn command_of(call: &Call, fd: u8, piece: u8) -> Command
+    requires call { IsCall call.now }
+    requires fd { fd < DESCRIPTORS }
+    requires piece { (cut : Piece) × (piece_of_call call.now piece ≡ Some cut) × (cut.index < FILE_BLOCKS) }
+    ensures command { (p : Place) → p.call ≡ call.now → fd_of p ≡ Some fd → IsCommandOf p result }
+    ensures piece { result.piece ≡ piece }
+{
+    let cut = piece_of(call, piece).unwrap();
+    Command {
+        piece,
+        vba: Vba::new(u64::from(fd) * FILE_BLOCKS + u64::from(cut.index)).unwrap(),
+        range: cut.range,
+        wrote: does_write(call),
     }
-    end_open(run, turn, &opened, inode.size)?;
-    Ok(Turn::Did(Row::Mapped))
 }
 
-/// The turn of a read: it moves the one piece.
-fn read_turn(start: &Disk, script: &Script, run: &mut Run, turn: u64) -> Result<Turn, OutOfMemory>
-    requires reached { IsReached start.now script.now run.old }
-    requires reading { run.old.ended ≡ 1 }
-    ensures turned { IfOk result (λ answer. Turned start.now script.now run.old run.new turn answer) }
-    ensures err { OnErr result (run.new ≡ run.old) }
+/// Whether a mode allows writing.
+fn may_write(mode: Mode) -> bool
+    ensures { result ≡ may_write mode }
 {
-    let Some(Call::Read { len, .. }) = call_of(script, run.ended) else {
-        return Ok(Turn::Idle);
-    };
-    let Some(opened) = run.opened else {
-        return Ok(Turn::Idle);
-    };
-    let Some(moved) = read_first(start, opened.file, *len)? else {
-        return Ok(Turn::Idle);
-    };
-    end_read(run, turn, moved)?;
-    Ok(Turn::Did(Row::Move))
+    match mode {
+        Mode::R => false,
+        Mode::Rw => true,
+    }
 }
 
-/// One turn of the process. After an error all is as before.
-pub(crate) fn take_turn(
-    start: &Disk,
-    script: &Script,
-    run: &mut Run,
-    turn: u64,
-) -> Result<Turn, OutOfMemory>
-    requires { IsReached start.now script.now run.old }
-    ensures turned { IfOk result (λ answer. Turned start.now script.now run.old run.new turn answer) }
-    ensures err { OnErr result (run.new ≡ run.old) }
+/// The row of the turn that adds an entry.
+fn row_of(entry: &Entry) -> Row
+    ensures { result ≡ row_of_entry entry.now }
 {
-    match run.ended {
-        0 => enter_turn(start, script, run, turn),
-        1 => read_turn(start, script, run, turn),
-        _ => Ok(Turn::Idle),
+    match entry {
+        Entry::Opened { .. } => Row::Opened,
+        Entry::Created { .. } => Row::Created,
+        Entry::Attached { .. } => Row::Attach,
+        Entry::Mapped { .. } => Row::Mapped,
+        Entry::Cleared { .. } => Row::Clear,
+        Entry::Detached { .. } => Row::DetachDone,
+        Entry::Access { .. } => Row::KernelAccess,
+        Entry::Missed { .. } => Row::Missed,
+        Entry::Extended { .. } => Row::Extend,
+        Entry::Released { .. } => Row::Release,
+        Entry::Sized { .. } => Row::Sized,
+        Entry::SizeRead { .. } => Row::SizeRead,
+        Entry::Closed { .. } => Row::Closed,
+        Entry::Unlinked { .. } => Row::Unlinked,
+        Entry::Refused { .. } => Row::Refused,
+    }
+}
+
+/// Whether a turn of this row leaves its process with a hold, unless the call ends.
+fn holds_after(call: &Call, row: Row) -> bool
+    ensures { result ≡ holds_after call.now row }
+{
+    matches!(row, Row::Extend) || holds_throughout(call)
+}
+
+/// Whether the call holds its file from its first effective turn to its last.
+fn holds_throughout(call: &Call) -> bool
+    ensures { result ≡ holds_throughout call.now }
+{
+    match call {
+        Call::Enter { .. }
+        | Call::Truncate { .. }
+        | Call::Unlink { .. }
+        | Call::Map { .. }
+        | Call::Close { .. } => true,
+        Call::Create { .. }
+        | Call::Read { .. }
+        | Call::Write { .. }
+        | Call::Size { .. }
+        | Call::RawRead { .. }
+        | Call::RawWrite { .. } => false,
     }
 }

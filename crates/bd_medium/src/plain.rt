@@ -44,6 +44,14 @@ impl Plain {
         &self.bytes.as_slice()[start + r.lo as usize..start + r.hi as usize]
     }
 
+    /// The bytes of all blocks, in place of the device.
+    pub fn into_bytes(self) -> Bytes
+        ensures { result ≡ self }
+    {
+        let Plain { bytes } = self;
+        List::from_vec(bytes)
+    }
+
     // Puts these bytes at this place. All else stays.
     fn put(&mut self, place: usize, bytes: &[u8])
         requires { place + length bytes.now ≤ length self.old }

@@ -7,20 +7,17 @@ use Rattle.bd_image.specs.Rules.{Accepted, Broken}
 use Rattle.bd_gen.specs.Script.{made_script}
 use Rattle.bd_gen.specs.Volume.{made_volume}
 use Rattle.bd_image.specs.Volumes.{image_of, volume_of}
-use Rattle.bd_script.specs.Texts.{script_text}
-use Rattle.bd_machine.specs.Refusals.{IsNotSimple}
-use Rattle.bd_machine.specs.Simple.{IsSimpleText}
+use Rattle.bd_script.specs.Refusals.{IsBadScript}
+use Rattle.bd_script.specs.Texts.{IsScript, script_text}
+use Rattle.bd_script.proofs.LawsOfTexts.{one-refusal, one-script, refused-no_script}
 use Rattle.bd_outside.specs.Around.{Left, ReadPast, Reading, Writing}
 use Rattle.bd_outside.proofs.Steps.{taken-le}
-use Rattle.bd_top.specs.declared.status.Outcome.{Outcome}
 use Rattle.bd_top.specs.declared.status.Status.{Status}
-use Rattle.bd_top.specs.declared.status.Status.TheVariants.{Done, Usage, ReadFault, WriteFault, BadImage, BadScript, OutOfMemory}
-use Rattle.bd_top.specs.Ends.{ReplayAround, CheckEnd, Decide, IsFault, LeadCheckTo, LeadReplayTo, LineWritten, MakeEnd, ReplayEnd, TextAndImageWritten}
+use Rattle.bd_top.specs.declared.status.Status.TheVariants.{Done, Usage, ReadFault, WriteFault, BadImage, OutOfMemory}
+use Rattle.bd_top.specs.Ends.{CheckEnd, Decide, IsFault, LeadCheckTo, LineWritten, MakeEnd, TextAndImageWritten}
 use Rattle.bd_top.specs.CheckLine.{check_line}
-use Rattle.bd_top.specs.Inputs.{IsBadImage, IsBadScript, IsImageRead, IsScriptRead, RefusesImage, RefusesReplay}
-use Rattle.bd_top.specs.Runs.{IsReplay}
+use Rattle.bd_top.specs.Inputs.{IsBadImage, IsImageRead, IsScriptBad, IsScriptRead, RefusesImage}
 use Rattle.bd_image.proofs.LongImages.{too_long}
-use Rattle.bd_top.proofs.Reading.{too_long_script}
 
 -- the laws of refusals
 abbrev pub NotAccepted : Type 0
@@ -32,6 +29,37 @@ OneRefusal = (b : List ℕ) (m p n q : ℕ) → Broken b m p → Broken b n q �
 -- what was left is longer than the limit where the bytes that were read are
 pub long_left : (r : Reading) (limit : ℕ) (bytes left : List ℕ) → r.left ≡ Some left → ReadPast limit r bytes → limit < length left
 long_left r limit bytes left is past = omega (arith, taken-le r.left r.remains bytes left is past.0, past.1)
+
+-- ---- what was read of a script, and what was left
+
+-- a script that was refused has that line and rule in what was left
+pub script_left : (text : Reading) (line rule : ℕ) (t : List ℕ) → IsScriptBad text line rule → text.left ≡ Some t → IsBadScript t line rule
+script_left text line rule t bad is =
+    elim bad.read [
+      | inl all ↦ subst (λ (b : List ℕ). IsBadScript b line rule) (all.0 t is).0 bad.bad
+      | inr past ↦
+          let longer : SCRIPT_SIZE < length bad.bytes = omega (arith, past.1) in
+          let told = one-refusal bad.bytes line rule 0 1 bad.bad (inl (longer, refl, refl)) in
+          inl (long_left text SCRIPT_SIZE bad.bytes t is past, told.0, told.1)
+    ]
+
+-- a script that was refused has no reading
+pub bad_is_no_script : (text : Reading) (line rule : ℕ) (t : List ℕ) (script : Script) → IsScriptBad text line rule
+    → text.left ≡ Some t → IsScript script → t ≡ script_text script → ⊥
+bad_is_no_script text line rule t script bad is of_script is_text =
+    refused-no_script t line rule (script_left text line rule t bad is) script of_script is_text
+
+-- one that was read has no bad line
+pub read_is_not_bad : (text : Reading) (script : Script) (line rule : ℕ) → IsScriptRead text script
+    → Left text (λ t. IsBadScript t line rule) → ⊥
+read_is_not_bad text script line rule read bad =
+    refused-no_script bad.0 line rule bad.2 script read.is_script (sym (read.read bad.0 bad.1).0 ∙ read.is_text)
+
+-- the script that was read is the one of the text that was left
+pub same_script : (text : Reading) (script other : Script) (t : List ℕ) → IsScriptRead text script → text.left ≡ Some t
+    → IsScript other → t ≡ script_text other → other ≡ script
+same_script text script other t read is of_script is_text =
+    one-script other script of_script read.is_script (sym is_text ∙ sym (read.read t is).0 ∙ read.is_text)
 
 -- ---- what was read of an image, and what was left
 
@@ -64,69 +92,6 @@ module _ (not : NotAccepted) (one : OneRefusal) (image : Reading) where
   -- the volume that was read is the one of the image that was left
   pub same_volume : (v : Volume) (b : List ℕ) → IsImageRead image v → image.left ≡ Some b → v ≡ volume_of b
   same_volume v b read is = read.says ∙ ap volume_of (read.read b is).0
-
-  -- ---- what was read of a script, and what was left
-
-  -- a script that was read is simple
-  not_refused : (v : Volume) (script : Script) (text : Reading) → IsScriptRead v text script → Left text (IsNotSimple v) → ⊥
-  not_refused v script text read refused =
-      refused.2 script (subst (λ (t : List ℕ). IsSimpleText v t script) (read.read refused.0 refused.1).0 read.simple)
-
-  -- one that was refused is not
-  not_simple : (v : Volume) (line rule : ℕ) (text : Reading) → IsBadScript v text line rule
-      → Left text (λ t. (script : Script) × IsSimpleText v t script) → ⊥
-  not_simple v line rule text bad simple =
-      elim bad.read [
-        | inl all ↦ subst (IsNotSimple v) (all.0 simple.0 simple.1).0 bad.not_simple simple.2.0 simple.2.1
-        | inr past ↦
-            too_long_script v simple.0 (long_left text SCRIPT_SIZE bad.bytes simple.0 simple.1 past) simple.2.0 simple.2.1
-      ]
-
-  -- ---- replay
-
-  -- a replay that was refused
-  refused_decided : (text : Reading) (status decided : Status) → RefusesReplay image text status → LeadReplayTo image text decided
-      → (status ≡ decided) ⊎ IsFault status
-  refused_decided text (ReadFault which) decided refused lead = inr tt
-  refused_decided text (WriteFault to) decided refused lead = inr tt
-  refused_decided text OutOfMemory decided refused lead = inr tt
-  refused_decided text (BadImage r p) (BadImage rule place) (inl refused) lead =
-      let same = same_refusal r p rule place refused.0 lead in inl (rw (same.0, same.1) refl)
-  refused_decided text (BadImage r p) (BadScript line rule) (inl refused) lead =
-      absurd (not_accepted r p refused.0 (lead.0.0, lead.0.1, lead.0.2.0))
-  refused_decided text (BadImage r p) Done (inl refused) lead = absurd (not_accepted r p refused.0 (lead.0, lead.1, lead.2.0))
-  refused_decided text (BadScript l r) (BadImage rule place) (inr refused) lead = absurd (not_broken refused.0 rule place refused.1 lead)
-  refused_decided text (BadScript l r) (BadScript line rule) (inr refused) lead =
-      inl (rw (refused.2.no_line, refused.2.no_rule, lead.1, lead.2) refl)
-  refused_decided text (BadScript l r) Done (inr refused) lead =
-      let v = same_volume refused.0 lead.0 refused.1 lead.1 in
-      absurd (not_simple (volume_of lead.0) l r text (subst (λ (w : Volume). IsBadScript w text l r) v refused.2) lead.2.1)
-  refused_decided text (BadImage r p) decided (inl refused) lead = absurd lead
-  refused_decided text (BadScript l r) decided (inr refused) lead = absurd lead
-  refused_decided text status decided (inl refused) lead = absurd refused.0
-  refused_decided text status decided (inr refused) lead = absurd refused.2
-
-  -- a replay that was run
-  ran_decided : (text : Reading) (out disk : Writing) (outcome : Outcome) (report left : List ℕ) (status decided : Status)
-      → IsReplay image text outcome.journal outcome.trace report left → TextAndImageWritten out disk report left status
-      → LeadReplayTo image text decided → (status ≡ decided) ⊎ IsFault status
-  ran_decided text out disk outcome report left (ReadFault which) decided run written lead = inr tt
-  ran_decided text out disk outcome report left (WriteFault to) decided run written lead = inr tt
-  ran_decided text out disk outcome report left OutOfMemory decided run written lead = inr tt
-  ran_decided text out disk outcome report left Done Done run written lead = inl refl
-  ran_decided text out disk outcome report left Done (BadImage rule place) run written lead =
-      absurd (not_broken run.volume rule place run.image_read lead)
-  ran_decided text out disk outcome report left Done (BadScript line rule) run written lead =
-      let v = same_volume run.volume lead.0.0 run.image_read lead.0.1 in
-      absurd (not_refused (volume_of lead.0.0) run.script text (subst (λ (w : Volume). IsScriptRead w text run.script) v run.script_read) lead.0.2.1)
-  ran_decided text out disk outcome report left Done decided run written lead = absurd lead
-  ran_decided text out disk outcome report left status decided run written lead = absurd written
-
-  pub replay_decided : (text : Reading) (out disk : Writing) (outcome : Outcome)
-      → ReplayEnd (record { image = image; script = text; out = out; disk = disk }) outcome → Decide (LeadReplayTo image text) outcome.status
-  replay_decided text out disk outcome (inl none) = λ decided lead. refused_decided text outcome.status decided none.refused lead
-  replay_decided text out disk outcome (inr run) = λ decided lead.
-      ran_decided text out disk outcome run.report run.left outcome.status decided run.run run.written lead
 
   -- ---- check
 
@@ -169,16 +134,6 @@ make_decided n out disk status (inl none) = inr (subst IsFault (sym none.0) tt)
 make_decided n out disk status (inr made) = written_decided out disk (script_text (made_script n)) (image_of made_volume) status made
 
 -- ---- no command ends as one for which no words ask
-
-refused_is_command : (image text : Reading) → RefusesReplay image text Usage → ⊥
-refused_is_command image text (inl refused) = refused.0
-refused_is_command image text (inr refused) = refused.2
-
-pub replay_is_command : (around : ReplayAround) (outcome : Outcome) → ReplayEnd around outcome → outcome.status ≡ Usage → ⊥
-replay_is_command around outcome (inl none) usage =
-    refused_is_command around.image around.script (subst (RefusesReplay around.image around.script) usage none.refused)
-replay_is_command around outcome (inr run) usage =
-    let there : ⊥ = subst (TextAndImageWritten around.out around.disk run.report run.left) usage run.written in there
 
 pub check_is_command : (image : Reading) (out : Writing) (status : Status) → CheckEnd image out status → status ≡ Usage → ⊥
 check_is_command image out status (inl none) usage = let there : ⊥ = subst (RefusesImage image) usage none.0 in there

@@ -1,9 +1,9 @@
--- Lemmas on the report, on what was read, on ends, also those of verifications, on numbers of blocks, and on numbers that are words.
-pub mod Appending
+-- Lemmas on ends, of all commands, of replays and of verifications, on calls that are not built, on numbers of blocks, and on
+-- numbers that are words.
 pub mod Counting
 pub mod Ends
-pub mod Reading
-pub mod ReportText
+pub mod ReplayEnds
 pub mod SpelledNumbers
+pub mod BuiltScripts
 pub mod VerifyCounts
 pub mod VerifyEnds

@@ -14,16 +14,16 @@ use Rattle.bd_image.specs.Volumes.{volume_of}
 use Rattle.bd_outside.specs.Around.{Left, ReadPast, ReadUpTo, Reading, Writing}
 use Rattle.bd_script.specs.Refusals.{IsBadScript}
 use Rattle.bd_script.specs.Texts.{IsScript, script_text}
-use Rattle.bd_script.proofs.LawsOfTexts.{one-refusal, one-script, refused-no_script}
+use Rattle.bd_script.proofs.LawsOfTexts.{one-refusal}
 use Rattle.bd_store.specs.declared.check.Verdict.{Verdict}
 use Rattle.bd_store.specs.declared.check.Verdict.TheVariants as verdicts
 use Rattle.bd_store.specs.Verdicts.{BreaksFirst, IsLegalInOrder, LacksEndOf}
 use Rattle.bd_top.specs.declared.status.Status.{Status}
 use Rattle.bd_top.specs.declared.status.Status.TheVariants.{Done, Usage, ReadFault, WriteFault, BadImage, BadScript, OutOfMemory, BadJournal, NotLegal, Unfinished}
 use Rattle.bd_top.specs.Ends.{Decide, IsFault, LineWritten}
-use Rattle.bd_top.specs.Inputs.{IsImageRead, RefusesImage}
-use Rattle.bd_top.specs.Verify.{FindsLegal, HasBadLine, HasJournal, IsBadText, IsJournalBad, IsJournalRead, IsJudged, IsVerdictOn, IsWholeScriptBad, IsWholeScriptRead, LeadVerifyTo, RefusesJournal, RefusesVerify, RefusesWholeScript, fault_of, VerifyEnd, verify_line}
-use Rattle.bd_top.proofs.Ends.{NotAccepted, OneRefusal, long_left, not_accepted, not_broken, same_refusal, same_volume}
+use Rattle.bd_top.specs.Inputs.{IsImageRead, IsScriptRead, RefusesImage, RefusesScript}
+use Rattle.bd_top.specs.Verify.{FindsLegal, HasBadLine, HasJournal, IsBadText, IsJournalBad, IsJournalRead, IsJudged, IsVerdictOn, LeadVerifyTo, RefusesJournal, RefusesVerify, fault_of, VerifyEnd, verify_line}
+use Rattle.bd_top.proofs.Ends.{NotAccepted, OneRefusal, bad_is_no_script, long_left, not_accepted, not_broken, read_is_not_bad, same_refusal, same_script, same_volume, script_left}
 
 -- the laws of journals as text
 abbrev pub OneJournal : Type 0
@@ -148,18 +148,7 @@ module _ (unique : OneJournal) (not_bad : BadIsNoJournal) (least : OneBadLine) (
       let number = least (drop b.place text) a.number b.number there b.bad in
       rw (a.line_is, b.line_is, place, number) refl
 
-  -- ---- what was read of a script and of a journal, and what was left
-
-  -- a script that was refused has that line and rule in what was left
-  script_left : (text : Reading) (line rule : ℕ) (t : List ℕ) → IsWholeScriptBad text line rule → text.left ≡ Some t → IsBadScript t line rule
-  script_left text line rule t bad is =
-      elim bad.read [
-        | inl all ↦ subst (λ (b : List ℕ). IsBadScript b line rule) (all.0 t is).0 bad.bad
-        | inr past ↦
-            let longer : SCRIPT_SIZE < length bad.bytes = omega (arith, past.1) in
-            let told = one-refusal bad.bytes line rule 0 1 bad.bad (inl (longer, refl, refl)) in
-            inl (long_left text SCRIPT_SIZE bad.bytes t is past, told.0, told.1)
-      ]
+  -- ---- what was read of a journal, and what was left
 
   -- a journal that was refused has that line in what was left
   journal_left : (text : Reading) (line : ℕ) (j : List ℕ) → IsJournalBad text line → text.left ≡ Some j → IsBadText j line
@@ -215,16 +204,15 @@ module _ (unique : OneJournal) (not_bad : BadIsNoJournal) (least : OneBadLine) (
   -- ---- the script
 
   -- a script that was read leads to its journal
-  script_read : (v : Volume) (text journal : Reading) (script : Script) (decided : Status) → IsWholeScriptRead text script
+  script_read : (v : Volume) (text journal : Reading) (script : Script) (decided : Status) → IsScriptRead text script
       → LeadScriptTo v text journal decided → LeadJournalTo v script journal decided
   script_read v text journal script decided read (inl (line, rule, is, bad)) =
-      absurd (refused-no_script bad.0 line rule bad.2 script read.is_script (sym (read.read bad.0 bad.1).0 ∙ read.is_text))
+      absurd (read_is_not_bad text script line rule read bad)
   script_read v text journal script decided read (inr (t, left, (other, is_script, is_text, lead))) =
-      let same : script_text other ≡ script_text script = sym is_text ∙ sym (read.read t left).0 ∙ read.is_text in
-      subst (λ (s : Script). LeadJournalTo v s journal decided) (one-script other script is_script read.is_script same) lead
+      subst (λ (s : Script). LeadJournalTo v s journal decided) (same_script text script other t read left is_script is_text) lead
 
   -- a script that was refused
-  script_decided : (v : Volume) (text journal : Reading) (status decided : Status) → RefusesWholeScript text status
+  script_decided : (v : Volume) (text journal : Reading) (status decided : Status) → RefusesScript text status
       → LeadScriptTo v text journal decided → (status ≡ decided) ⊎ IsFault status
   script_decided v text journal (ReadFault which) decided refused lead = inr tt
   script_decided v text journal OutOfMemory decided refused lead = inr tt
@@ -232,7 +220,7 @@ module _ (unique : OneJournal) (not_bad : BadIsNoJournal) (least : OneBadLine) (
       let same = one-refusal bad.0 line rule m r (script_left text line rule bad.0 refused bad.1) bad.2 in
       inl (rw (same.0, same.1, is) refl)
   script_decided v text journal (BadScript line rule) decided refused (inr (t, left, (other, is_script, is_text, lead))) =
-      absurd (refused-no_script t line rule (script_left text line rule t refused left) other is_script is_text)
+      absurd (bad_is_no_script text line rule t other refused left is_script is_text)
   script_decided v text journal status decided refused lead = absurd refused
 
   -- ---- the image, and all of it

@@ -1,5 +1,5 @@
 -- What each command that words may ask for promises, on the sources and sinks that all commands are given.
-use Rattle.std.specs.Prelude.{ℕ, Option, None, Some}
+use Rattle.std.specs.Prelude.{ℕ, Bool, Option, None, Some}
 use Rattle.bd_outside.specs.Around.{ReadNothing, Reading, Writing, WroteNothing}
 use Rattle.bd_top.specs.declared.status.Outcome.{Outcome}
 use Rattle.bd_top.specs.Ends.{Checks, Makes, NoRun, ReplayAround, Replays}
@@ -19,9 +19,9 @@ abbrev pub for_replay : Around → ReplayAround
 for_replay around =
     record { image = around.image; script = around.script; out = around.out; disk = around.disk }
 
--- a replay, which reads no journal
-pub record OnlyReplays (around : Around) (outcome : Outcome) : Type 0 where
-  pub replays : Replays (for_replay around) outcome
+-- a replay that prints the journal or not, and reads none
+pub record OnlyReplays (print : Bool) (around : Around) (outcome : Outcome) : Type 0 where
+  pub replays : Replays print (for_replay around) outcome
   pub journal_same : ReadNothing around.journal
 
 -- nothing went to disk, and there is no run
@@ -58,7 +58,7 @@ pub record DoesNothing (around : Around) (outcome : Outcome) : Type 0 where
 -- what was asked for was done, as that command promises it; where nothing was asked for, nothing was done
 abbrev pub Does : Option Request → Around → Outcome → Type 0
 Does None around outcome = DoesNothing around outcome
-Does (Some (replay_of image script out)) around outcome = OnlyReplays around outcome
+Does (Some (replay_of image script out journal)) around outcome = OnlyReplays journal around outcome
 Does (Some (verify_of image script journal)) around outcome = OnlyVerifies around outcome
 Does (Some (check_of image)) around outcome = OnlyChecks around outcome
 Does (Some (make_of n image script)) around outcome = OnlyMakes n around outcome

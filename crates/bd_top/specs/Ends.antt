@@ -1,5 +1,5 @@
 -- What each command promises: what stands behind the end that its status tells, and which end its inputs lead to.
-use Rattle.std.specs.Prelude.{◌≡◌, ◌⊎◌, ℕ, ◌+◌, List, [], Option, None, Some}
+use Rattle.std.specs.Prelude.{◌≡◌, ◌⊎◌, ℕ, ◌+◌, Bool, List, [], Option, None, Some}
 use Rattle.bd_base.specs.declared.limits.TheConstants.{IMAGE_SIZE, SCRIPT_SIZE}
 use Rattle.bd_base.specs.declared.script.Script.{Script}
 use Rattle.bd_base.specs.declared.volume.Volume.{Volume}
@@ -7,16 +7,15 @@ use Rattle.bd_image.specs.Rules.{Accepted, Broken}
 use Rattle.bd_gen.specs.Script.{made_script}
 use Rattle.bd_gen.specs.Volume.{made_volume}
 use Rattle.bd_image.specs.Volumes.{image_of, volume_of}
-use Rattle.bd_machine.specs.Refusals.{IsNotSimple}
-use Rattle.bd_machine.specs.Simple.{IsSimpleText}
-use Rattle.bd_script.specs.Texts.{script_text}
+use Rattle.bd_script.specs.Refusals.{IsBadScript}
+use Rattle.bd_script.specs.Texts.{IsScript, script_text}
 use Rattle.bd_outside.specs.Around.{Left, ReadAtMost, Reading, WriteFailed, Writing, Wrote, WroteNothing, WrotePrefix}
 use Rattle.bd_top.specs.declared.status.Outcome.{Outcome}
 use Rattle.bd_top.specs.declared.status.Status.{Status}
 use Rattle.bd_top.specs.declared.status.Status.TheVariants.{Done, ReadFault, WriteFault, BadImage, BadScript, OutOfMemory}
 use Rattle.bd_top.specs.declared.status.To.TheVariants.{Out, Disk}
 use Rattle.bd_top.specs.CheckLine.{check_line}
-use Rattle.bd_top.specs.Inputs.{IsImageRead, RefusesImage, RefusesReplay}
+use Rattle.bd_top.specs.Inputs.{IsImageRead, RefusesImage, RefusesReplay, first_unbuilt}
 use Rattle.bd_top.specs.Runs.{IsReplay}
 
 -- the sources and sinks of a replay around the call
@@ -62,29 +61,35 @@ pub record ReplayRefused (around : ReplayAround) (outcome : Outcome) : Type 0 wh
   pub out_same : WroteNothing around.out
   pub disk_same : WroteNothing around.disk
 
--- a run was made, and its report and the image that it left were written so far
-pub record ReplayRan (around : ReplayAround) (outcome : Outcome) : Type 0 where
-  pub report : List ℕ
+-- a run was made, and its text, with the journal or without, and the image that it left were written so far
+pub record ReplayRan (print : Bool) (around : ReplayAround) (outcome : Outcome) : Type 0 where
+  pub text : List ℕ
   pub left : List ℕ
-  pub run : IsReplay around.image around.script outcome.journal outcome.trace report left
-  pub written : TextAndImageWritten around.out around.disk report left outcome.status
+  pub run : IsReplay around.image around.script print outcome.journal outcome.trace text left
+  pub written : TextAndImageWritten around.out around.disk text left outcome.status
 
 -- what stands behind the end of a replay
-abbrev pub ReplayEnd : ReplayAround → Outcome → Type 0
-ReplayEnd around outcome = ReplayRefused around outcome ⊎ ReplayRan around outcome
+abbrev pub ReplayEnd : Bool → ReplayAround → Outcome → Type 0
+ReplayEnd print around outcome = ReplayRefused around outcome ⊎ ReplayRan print around outcome
+
+-- the image and the script that were left are good, and this holds of them
+abbrev pub LeftGood : Reading → Reading → (Volume → Script → Type 0) → Type 0
+LeftGood image text Holds =
+    Left image (λ b. Accepted b
+    × Left text (λ t. (script : Script) × IsScript script × (t ≡ script_text script) × Holds (volume_of b) script))
 
 -- the status to which an image and a script lead
 abbrev pub LeadReplayTo : Reading → Reading → Status → Type 0
 LeadReplayTo image text (BadImage rule place) = Left image (λ b. Broken b rule place)
 LeadReplayTo image text (BadScript line rule) =
-    Left image (λ b. Accepted b × Left text (IsNotSimple (volume_of b))) × (line ≡ 0) × (rule ≡ 0)
-LeadReplayTo image text Done =
-    Left image (λ b. Accepted b × Left text (λ t. (script : Script) × IsSimpleText (volume_of b) t script))
+    (Left image Accepted × Left text (λ t. IsBadScript t line rule))
+    ⊎ (LeftGood image text (λ v script. first_unbuilt script ≡ Some line) × (rule ≡ 0))
+LeadReplayTo image text Done = LeftGood image text (λ v script. first_unbuilt script ≡ None)
 LeadReplayTo image text status = ⊥
 
--- what `replay` promises
-pub record Replays (around : ReplayAround) (outcome : Outcome) : Type 0 where
-  pub end : ReplayEnd around outcome
+-- what `replay` promises, where the journal is printed or not
+pub record Replays (print : Bool) (around : ReplayAround) (outcome : Outcome) : Type 0 where
+  pub end : ReplayEnd print around outcome
   pub decided : Decide (LeadReplayTo around.image around.script) outcome.status
   pub image_taken : ReadAtMost (IMAGE_SIZE + 1) around.image
   pub script_taken : ReadAtMost (SCRIPT_SIZE + 1) around.script

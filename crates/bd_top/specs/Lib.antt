@@ -3,7 +3,6 @@ pub mod CheckLine
 pub mod Commands
 pub mod Ends
 pub mod Inputs
-pub mod Report
 pub mod Runs
 pub mod Status
 pub mod Verify

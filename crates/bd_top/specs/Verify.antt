@@ -17,15 +17,14 @@ use Rattle.bd_image.specs.Rules.{Accepted, Broken}
 use Rattle.bd_image.specs.Volumes.{volume_of}
 use Rattle.bd_outside.specs.Around.{Left, ReadAll, ReadAtMost, ReadFailed, ReadNothing, ReadUpTo, Reading, WroteNothing, Writing}
 use Rattle.bd_script.specs.Refusals.{IsBadScript}
-use Rattle.bd_script.specs.Texts.{IsScript, IsScriptText, script_text}
 use Rattle.bd_store.specs.declared.check.Verdict.{Verdict}
 use Rattle.bd_store.specs.declared.check.Verdict.TheVariants as verdicts
 use Rattle.bd_store.specs.Verdicts.{BreaksFirst, IsLegalInOrder, LacksEndOf}
 use Rattle.bd_top.specs.declared.status.Status.{Status}
 use Rattle.bd_top.specs.declared.status.Status.TheVariants.{Done, ReadFault, BadImage, BadScript, OutOfMemory, BadJournal, NotLegal, Unfinished}
 use Rattle.bd_top.specs.declared.status.Which.TheVariants.{Script as Script_, Journal}
-use Rattle.bd_top.specs.Ends.{Decide, LineWritten}
-use Rattle.bd_top.specs.Inputs.{IsImageRead, RefusesImage}
+use Rattle.bd_top.specs.Ends.{Decide, LeftGood, LineWritten}
+use Rattle.bd_top.specs.Inputs.{IsImageRead, IsScriptBad, IsScriptRead, RefusesImage, RefusesScript}
 
 -- ---- the line that tells of a legal journal
 
@@ -79,19 +78,6 @@ IsBadText text line =
 
 -- ---- what was read
 
--- the script was read to its end, and this is the one that its text is of
-pub record IsWholeScriptRead (text : Reading) (script : Script) : Type 0 where
-  pub bytes : List ℕ
-  pub read : ReadAll text bytes
-  pub is_script : IsScript script
-  pub is_text : bytes ≡ script_text script
-
--- the script, read as far as a script may go, has this first bad line, which breaks this least rule
-pub record IsWholeScriptBad (text : Reading) (line rule : ℕ) : Type 0 where
-  pub bytes : List ℕ
-  pub read : ReadUpTo SCRIPT_SIZE text bytes
-  pub bad : IsBadScript bytes line rule
-
 -- the journal was read to its end, is not too long, and these are its entries
 pub record IsJournalRead (text : Reading) (journal : List Entry) : Type 0 where
   pub bytes : List ℕ
@@ -114,13 +100,6 @@ pub record IsVerdictOn (v : Volume) (script : Script) (journal : List Entry) (ve
       (verdict ≡ verdicts.Unfinished process call) ↔ LacksEndOf v script journal process call
 
 -- ---- why no line is written
-
--- why there is no script: a read failed, a line is bad, or no memory was found
-abbrev pub RefusesWholeScript : Reading → Status → Type 0
-RefusesWholeScript text (ReadFault Script_) = ReadFailed text
-RefusesWholeScript text (BadScript line rule) = IsWholeScriptBad text line rule
-RefusesWholeScript text OutOfMemory = Unit {0}
-RefusesWholeScript text status = ⊥
 
 -- the journal was read, and the verdict on it is this one
 abbrev pub IsJudged : Volume → Script → Reading → Verdict → Type 0
@@ -150,7 +129,7 @@ pub record ImageRefused (image text journal : Reading) (status : Status) : Type 
 pub record ScriptRefused (image text journal : Reading) (status : Status) : Type 0 where
   pub volume : Volume
   pub image_read : IsImageRead image volume
-  pub refused : RefusesWholeScript text status
+  pub refused : RefusesScript text status
   pub journal_same : ReadNothing journal
 
 -- image and script were read, and the journal refused
@@ -158,7 +137,7 @@ pub record JournalRefused (image text journal : Reading) (status : Status) : Typ
   pub volume : Volume
   pub script : Script
   pub image_read : IsImageRead image volume
-  pub script_read : IsWholeScriptRead text script
+  pub script_read : IsScriptRead text script
   pub refused : RefusesJournal journal status
 
 -- all three were read, and the journal is not legal, or not finished
@@ -167,7 +146,7 @@ pub record JournalFaulty (image text journal : Reading) (status : Status) : Type
   pub script : Script
   pub verdict : Verdict
   pub image_read : IsImageRead image volume
-  pub script_read : IsWholeScriptRead text script
+  pub script_read : IsScriptRead text script
   pub judged : IsJudged volume script journal verdict
   pub fault : fault_of verdict ≡ Some status
 
@@ -181,7 +160,7 @@ RefusesVerify image text journal status =
 pub record FindsLegal (image text journal : Reading) (script : Script) : Type 0 where
   pub volume : Volume
   pub image_read : IsImageRead image volume
-  pub script_read : IsWholeScriptRead text script
+  pub script_read : IsScriptRead text script
   pub judged : IsJudged volume script journal verdicts.Legal
 
 -- ---- what `verify` promises
@@ -195,12 +174,6 @@ VerifyTold image text journal out status =
 abbrev pub VerifyEnd : Reading → Reading → Reading → Writing → Status → Type 0
 VerifyEnd image text journal out status =
     (RefusesVerify image text journal status × WroteNothing out) ⊎ VerifyTold image text journal out status
-
--- the image and the script that were left are good, and this holds of them
-abbrev pub LeftGood : Reading → Reading → (Volume → Script → Type 0) → Type 0
-LeftGood image text Holds =
-    Left image (λ b. Accepted b
-    × Left text (λ t. (script : Script) × IsScript script × (t ≡ script_text script) × Holds (volume_of b) script))
 
 -- the three inputs that were left have a reading, and this holds of them
 abbrev pub LeftAll : Reading → Reading → Reading → (Volume → Script → List Entry → Type 0) → Type 0

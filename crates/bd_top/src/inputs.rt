@@ -10,9 +10,9 @@ ghost use Rattle.bd_top.specs.Inputs.{IsImageRead, IsScriptRead, RefusesImage, R
 
 use crate::status::{Status, Which};
 use bd_base::{Bytes, IMAGE_SIZE, SCRIPT_SIZE, Script, Volume};
-use bd_image::{ImageError, Rule, parse, sound_volumes};
-use bd_machine::{ScriptError, read_simple};
+use bd_image::{ImageError, Rule, parse};
 use bd_outside::{ReadError, Source, read_all};
+use bd_script::ScriptError;
 use std::alloc::Global;
 
 /// Bytes of a program are below 256.
@@ -58,26 +58,19 @@ pub(crate) fn read_image<I: Source>(alloc: Global, image: &mut I) -> Result<Volu
     }
 }
 
-/// Reads the script from its source.
-pub(crate) fn read_script<S: Source>(
-    alloc: Global,
-    script: &mut S,
-    volume: &Volume,
-) -> Result<Script, Status>
-    requires { AcceptedVolume volume.now }
-    ensures ok { IfOk result (IsScriptRead volume.now (reading S.Source script.old script.new)) }
-    ensures err { IfErr result
-        (RefusesScript volume.now (reading S.Source script.old script.new)) }
+/// Reads the script from its source, whatever its calls are.
+pub(crate) fn read_script<S: Source>(alloc: Global, script: &mut S) -> Result<Script, Status>
+    ensures ok { IfOk result (IsScriptRead (reading S.Source script.old script.new)) }
+    ensures err { IfErr result (RefusesScript (reading S.Source script.old script.new)) }
     ensures taken { ReadAtMost (SCRIPT_SIZE + 1) (reading S.Source script.old script.new) }
 {
     let text = match read_all(alloc, script, SCRIPT_SIZE as usize) {
         Ok(text) => text,
         Err(ReadError::Fault) => return Err(Status::ReadFault(Which::Script)),
-        Err(ReadError::TooLong) => return Err(Status::BadScript { line: 0, rule: 0 }),
+        Err(ReadError::TooLong) => return Err(Status::BadScript { line: 0, rule: 1 }),
         Err(ReadError::OutOfMemory) => return Err(Status::OutOfMemory),
     };
-    sound_volumes();
-    match read_simple(alloc, text.as_slice(), volume) {
+    match bd_script::read_script(alloc, text.as_slice()) {
         Ok(script) => Ok(script),
         Err(ScriptError::BadScript { line, rule }) => Err(Status::BadScript { line, rule }),
         Err(ScriptError::OutOfMemory) => Err(Status::OutOfMemory),

@@ -16,11 +16,12 @@ use std::alloc::Global;
 /// Runs the command that the words after the program's name say, on these sources and sinks.
 ///
 /// What the words ask for is done as that command promises it (`Does`, specs/Commands.antt).
-/// `replay` runs the script over the image, writes the report to `out`, and then the image as the run
-/// leaves it to `disk`. `verify` writes one line to `out` where the journal is a legal history of the
-/// image's files by the script's calls. `check` writes one line that tells of the image to `out`.
-/// `make` reads nothing; it writes the text of the script that it makes to `out`, and then the image
-/// to `disk`. Where the words ask for nothing, the status is `Usage` and nothing is done.
+/// `replay` runs the script over the image, writes the report to `out`, with `--journal` the journal
+/// after it, and then the image as the run leaves it to `disk`. `verify` writes one line to `out` where
+/// the journal is a legal history of the image's files by the script's calls. `check` writes one line
+/// that tells of the image to `out`. `make` reads nothing; it writes the text of the script that it
+/// makes to `out`, and then the image to `disk`. Where the words ask for nothing, the status is `Usage`
+/// and nothing is done.
 pub fn top<I: Source, S: Source, J: Source, O: Sink, D: Sink>(
     alloc: Global,
     words: &[String],
@@ -40,7 +41,9 @@ pub fn top<I: Source, S: Source, J: Source, O: Sink, D: Sink>(
     } in Does (request_of words.now) around result }
 {
     match read_words(words) {
-        Some(Command::Replay { .. }) => replay_all(alloc, image, script, out, disk),
+        Some(Command::Replay { journal: print, .. }) => {
+            replay_all(alloc, image, script, out, disk, print)
+        }
         Some(Command::Verify { .. }) => {
             let status = verify_all(alloc, image, script, journal, out);
             without_run(alloc, status)

@@ -36,7 +36,8 @@ pub enum Status {
     WriteFault(To),
     /// The image breaks this rule, the least, at this place, the least (docs/FORMATS.md).
     BadImage { rule: u8, place: u64 },
-    /// The script is not one that is run: line and rule are 0.
+    /// This line of the script, the first bad one, breaks this rule, the least; or it is the first line of a call that
+    /// the machine does not run yet, with rule 0 (docs/FORMATS.md).
     BadScript { line: u64, rule: u8 },
     /// No memory was found; what went out is a prefix.
     OutOfMemory,

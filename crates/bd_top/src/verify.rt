@@ -9,12 +9,12 @@ ghost use Rattle.bd_entry.specs.declared.entry.Entry.{Entry};
 ghost use Rattle.bd_entry.specs.Calls.{pieces_of_call};
 ghost use Rattle.bd_image.specs.Volumes.{AcceptedVolume};
 ghost use Rattle.bd_outside.specs.Around.{ReadAtMost, reading, writing};
-ghost use Rattle.bd_top.specs.Verify.{FindsLegal, HasBadLine, HasJournal, IsJournalRead, IsVerdictOn, IsWholeScriptRead, RefusesJournal, RefusesVerify, RefusesWholeScript, Verifies, call_count, fault_of, is_ended, line_count, piece_count, pieces_in, verify_line};
+ghost use Rattle.bd_top.specs.Verify.{FindsLegal, HasBadLine, HasJournal, IsJournalRead, IsVerdictOn, RefusesJournal, RefusesVerify, Verifies, call_count, fault_of, is_ended, line_count, piece_count, pieces_in, verify_line};
 
 use crate::check::write_line;
-use crate::inputs::read_image;
+use crate::inputs::{read_image, read_script};
 use crate::status::{Status, Which};
-use bd_base::{Bytes, Call, JOURNAL_SIZE, List, OutOfMemory, Process, SCRIPT_SIZE, Script, Volume};
+use bd_base::{Bytes, Call, JOURNAL_SIZE, List, OutOfMemory, Process, Script, Volume};
 use bd_blocks::text::{LF, push_bytes, push_number};
 use bd_entry::{
     EntryList, JournalError, after_report, bad_is_no_journal, one_bad_line, one_journal,
@@ -22,7 +22,6 @@ use bd_entry::{
 };
 use bd_image::{one_refusal, refused_is_not_accepted, sound_volumes};
 use bd_outside::{ReadError, Sink, Source, read_all};
-use bd_script::ScriptError;
 use bd_store::{Verdict, check_journal, pieces_of};
 use std::alloc::Global;
 
@@ -58,25 +57,6 @@ fn journal_in(alloc: Global, text: &[u8]) -> Result<EntryList, JournalError>
             line: lines_in(&text[..place]) + line,
         }),
         Err(JournalError::OutOfMemory) => Err(JournalError::OutOfMemory),
-    }
-}
-
-/// Reads the script from its source, whatever its calls are.
-fn read_whole_script<S: Source>(alloc: Global, script: &mut S) -> Result<Script, Status>
-    ensures ok { IfOk result (IsWholeScriptRead (reading S.Source script.old script.new)) }
-    ensures err { IfErr result (RefusesWholeScript (reading S.Source script.old script.new)) }
-    ensures taken { ReadAtMost (SCRIPT_SIZE + 1) (reading S.Source script.old script.new) }
-{
-    let text = match read_all(alloc, script, SCRIPT_SIZE as usize) {
-        Ok(text) => text,
-        Err(ReadError::Fault) => return Err(Status::ReadFault(Which::Script)),
-        Err(ReadError::TooLong) => return Err(Status::BadScript { line: 0, rule: 1 }),
-        Err(ReadError::OutOfMemory) => return Err(Status::OutOfMemory),
-    };
-    match bd_script::read_script(alloc, text.as_slice()) {
-        Ok(script) => Ok(script),
-        Err(ScriptError::BadScript { line, rule }) => Err(Status::BadScript { line, rule }),
-        Err(ScriptError::OutOfMemory) => Err(Status::OutOfMemory),
     }
 }
 
@@ -179,7 +159,7 @@ fn read_and_judge<I: Source, S: Source, J: Source>(
         (reading J.Source journal.old journal.new) }
 {
     let volume = read_image(alloc, image)?;
-    let script = read_whole_script(alloc, script)?;
+    let script = read_script(alloc, script)?;
     let entries = read_entries(alloc, journal)?;
     sound_volumes();
     let line = match line_of(alloc, &script) {

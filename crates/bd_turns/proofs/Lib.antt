@@ -113,3 +113,7 @@ pub mod RightsLeft
 pub mod TurnBounds
 pub mod WithinAfterTurns
 pub mod KeepsWithin
+pub mod CourseStates
+pub mod CourseEnds
+pub mod CourseBounds
+pub mod CourseOrder

@@ -9,5 +9,6 @@ pub mod Rest
 pub mod Added
 pub mod Reached
 pub mod Laws
+pub mod CourseLaws
 pub mod Progress
 pub mod Names

@@ -1,69 +1,40 @@
 use Rattle.std.proofs.Common.{◌≡◌, List, refl, sym, ap, ◌∙◌, subst}
 use Rattle.bd_base.specs.declared.script.Script.{Script}
-use Rattle.bd_base.specs.declared.volume.Volume.{Volume}
 use Rattle.bd_entry.specs.declared.entry.Entry.{Entry}
 use Rattle.bd_entry.specs.History.{InOrder, Legal}
-use Rattle.bd_entry.specs.Laws.{IsHistory}
-use Rattle.bd_entry.specs.Store.{Valid, start_store, volume_in}
-use Rattle.bd_image.specs.Volumes.{AcceptedVolume, image_of}
-use Rattle.bd_machine.specs.declared.turn.Event.{Event}
-use Rattle.bd_machine.specs.Course.{IsCourse, visible}
-use Rattle.bd_machine.specs.Machine.{boot_state}
-use Rattle.bd_machine.specs.Running.{Progress}
-use Rattle.bd_top.specs.Report.{report_text}
-use Rattle.bd_top.proofs.Reading.{volume_for_machine}
+use Rattle.bd_entry.specs.Store.{Store, start_store}
+use Rattle.bd_image.specs.Volumes.{image_of}
+use Rattle.bd_machine.specs.Machine.{HasRun, IsLeft, Progress, shown}
+use Rattle.bd_turns.specs.declared.turn.Event.{Event}
+use Rattle.bd_turns.specs.Course.{IsCourse, visible}
+use Rattle.bd_turns.specs.State.{boot_state}
+use Rattle.bd_top.specs.Runs.{run_text}
 use Rattle.bd_top.proofs.replay.run_script.Goals as goal
-
-pub replay-requires-clause-volume : goal.replay-requires-clause-volume
-replay-requires-clause-volume c = volume_for_machine c.args.volume (c.sound_volumes.ensures.sound c.args.volume c.requires.volume)
-
-pub replay-requires-clause-files : goal.replay-requires-clause-files
-replay-requires-clause-files c = (c.sound_volumes.ensures.sound c.args.volume c.requires.volume).files.valid
-
--- the journal leads to a valid store, so its volume is sound, and that of an accepted image
-pub render-requires : goal.render-requires
-render-requires c =
-    let m : Progress = c.in_ok-machine.machine in
-    let ran = c.in_ok-machine.ensures in
-    let history : IsHistory c.args.volume c.args.script m.state.journal m.state.store =
-    record {
-      sound = c.sound_volumes.ensures.sound c.args.volume c.requires.volume;
-      limits = c.requires.limits;
-      legal =
-          subst (λ (first : Volume). Legal c.args.script (start_store first c.args.script) m.state.journal m.state.store) ran.start
-          (subst (λ (script : Script). Legal script (start_store m.start script) m.state.journal m.state.store) ran.script ran.history.legal);
-      in_order = ran.in_order.so_far;
-    } in
-    let valid : Valid m.state.store = c.histories_keep_valid.ensures c.args.volume c.args.script m.state.journal m.state.store history in
-    subst AcceptedVolume (sym c.in_ok-volume.ensures) (c.sound_volumes.ensures.accepted (volume_in m.state.store) valid.volume)
 
 pub returns : goal.returns
 returns c =
-    let m : Progress = c.in_ok-machine.machine in
-    let ran = c.in_ok-machine.ensures in
-    let journal_is = sym c.into_history-journal.ensures.journal in
-    let trace_is = sym c.into_history-journal.ensures.trace in
+    let script = c.args.script in
+    let start : Store = start_store c.args.volume script in
+    let m : Progress = shown c.in_ok-machine.machine in
+    let ran : HasRun c.args.volume script m = c.in_ok-machine.ensures in
+    let run = c.in_ok-volume.field-0 in
+    let left : IsLeft m run = c.in_ok-volume.ensures in
+    let journal_is : m.state.journal ≡ run.journal = sym left.journal in
+    let trace_is : m.trace ≡ run.trace = sym left.trace in
     record {
       store = m.state.store;
-      legal =
-          subst (λ (journal : List Entry). Legal c.args.script (start_store c.args.volume c.args.script) journal m.state.store) journal_is
-          (subst (λ (start : Volume). Legal c.args.script (start_store start c.args.script) m.state.journal m.state.store) ran.start
-          (subst (λ (script : Script). Legal script (start_store m.start script) m.state.journal m.state.store) ran.script ran.history.legal));
-      in_order = subst (λ (journal : List Entry). InOrder c.args.script journal) journal_is ran.in_order;
+      legal = subst (λ (journal : List Entry). Legal script start journal m.state.store) journal_is ran.history.legal;
+      in_order = subst (λ (journal : List Entry). InOrder script journal) journal_is ran.in_order;
       state = m.state;
-      course = subst (λ (trace : List Event). IsCourse (start_store c.args.volume c.args.script) c.args.script trace m.state) trace_is ran.course;
+      course = subst (λ (trace : List Event). IsCourse start script trace m.state) trace_is ran.course;
       journal_is = journal_is;
       store_is = refl;
-      shown =
-          ap (λ (trace : List Event). visible (boot_state (start_store c.args.volume c.args.script) c.args.script) trace) c.into_history-journal.ensures.trace
-          ∙ subst (λ (start : Volume). visible (boot_state (start_store start c.args.script) c.args.script) m.trace ≡ m.state.journal) ran.start
-          (subst (λ (script : Script). visible (boot_state (start_store m.start script) script) m.trace ≡ m.state.journal) ran.script
-          ran.history.follows.journal)
-          ∙ journal_is;
-      image_is = c.in_ok-image.ensures.image ∙ ap image_of c.in_ok-volume.ensures;
+      shown = ap (λ (trace : List Event). visible (boot_state start script) trace) left.trace ∙ ran.visible_is ∙ journal_is;
+      image_is = c.in_ok-image.ensures.image ∙ ap image_of left.volume;
       accepted = c.in_ok-image.ensures.accepted;
-      report_is =
-          c.in_ok-report.ensures c.requires.script.0 c.requires.script.2.some c.requires.script.2.one_block
-          ∙ ap (λ (script : Script). report_text script c.journal.result.now) (sym c.requires.script.1)
-          ∙ ap (λ (journal : List Entry). report_text c.args.script journal) (c.journal.ensures.journal ∙ journal_is);
+      text_is =
+          c.in_ok-text.ensures
+          ∙ ap (λ (s : Script). run_text s c.args.print c.journal.result.now c.trace.result.now) (c.script.ensures ∙ ran.script_is)
+          ∙ ap (λ (journal : List Entry). run_text script c.args.print journal c.trace.result.now) (c.journal.ensures.journal ∙ journal_is)
+          ∙ ap (λ (trace : List Event). run_text script c.args.print run.journal trace) (c.trace.ensures ∙ trace_is);
     }

@@ -1,27 +1,47 @@
-use Rattle.std.proofs.Common.{refl, ◌≡◌, ◌≢◌, sym, ◌∙◌}
-use Rattle.bd_machine.proofs.Resting.{turn_lowers}
-use Rattle.bd_machine.proofs.Stepping.{stepped-engine, stepped-process}
+use Rattle.std.proofs.Common.{◌≡◌, ◌∙◌, ap, subst, sym}
+use Rattle.bd_machine.specs.Kept.{state_shown}
+use Rattle.bd_machine.specs.Machine.{shown, state_of, stepped}
+use Rattle.bd_machine.specs.Whole.{Whole}
+use Rattle.bd_machine.proofs.ShowingMachine.{kept_at}
+use Rattle.bd_machine.proofs.ShowingTurns.{next_progress, on_err, rest_lower, same_progress, stayed, stepped_to}
+use Rattle.bd_turns.specs.declared.turn.Turn.{Turn}
+use Rattle.bd_turns.specs.Reached.{IsActor}
+use Rattle.bd_turns.specs.Turns.{LowersRest, answer_of}
 use Rattle.bd_machine.proofs.machine.Machine.step.Goals as goal
-use Rattle.bd_machine.proofs.machine.Machine.step.Goals.{then-get-eq0+in_ok-turn, else-get-eq0}
+
+pub invariant_of-self : goal.invariant_of-self
+invariant_of-self c =
+    kept_at c.self.inside.script c.step.new.self _
+    (stayed c.self.inside.script c.self.inside.parts c.step.new.self c.self.invariant c.in_err-turn.ensures.err)
+
+pub returns-in_err-turn-clause-err : goal.returns-in_err-turn-clause-err
+returns-in_err-turn-clause-err c =
+    on_err c.from_residual.result _
+    (same_progress c.self.inside.script c.self.inside.parts c.step.new.self c.self.invariant c.in_err-turn.ensures.err
+    ∙ ap shown c.self.view_is)
+
+pub invariant_of-self-2 : goal.invariant_of-self-2
+invariant_of-self-2 c =
+    kept_at c.self.inside.script _ _
+    (stepped_to c.self.inside.script c.self.inside.parts c.step.new.self c.pass.new.self c.args.actor c.in_ok-turn.turn
+    c.self.invariant (subst (λ (w : Whole). IsActor (state_of w) c.args.actor) (sym c.self.view_is) c.requires)
+    c.in_ok-turn.ensures.ok c.pass.ensures)
+
+pub returns-clause-answer : goal.returns-clause-answer
+returns-clause-answer c =
+    c.in_ok-turn.ensures.ok.answer ∙ ap (λ (w : Whole). answer_of (state_of w) c.args.actor) c.self.view_is
 
 pub returns-clause-ok : goal.returns-clause-ok
 returns-clause-ok c =
-    elim c.if-get-eq0.branch [
-      | then-get-eq0+in_ok-turn w ↦
-          let first : 0 ≡ c.args.actor = sym w.if-get-eq0.true ∙ c.get.ensures.value in
-          let taken = stepped-process c.self.inside.start c.self.inside.script c.self.inside.run w.take_turn.new.run c.self.inside.turns w.in_ok-turn.turn w.in_ok-turn.ensures.turned in
-          rw (c.saturating_add-self-inside.ensures, w.self-inside-is, ← first, ← c.self.view_is) taken
-      | else-get-eq0 w ↦
-          let other : c.args.actor ≢ 0 = λ first. w.if-get-eq0.false (c.get.ensures.value ∙ first) in
-          rw (c.saturating_add-self-inside.ensures, w.self-inside-is, ← c.self.view_is)
-          (stepped-engine c.self.inside.start c.self.inside.script c.self.inside.run c.self.inside.turns c.args.actor c.self.invariant other)
-    ]
+    next_progress c.self.inside.script c.self.inside.parts c.step.new.self c.pass.new.self c.args.actor c.in_ok-turn.turn
+    c.self.invariant (subst (λ (w : Whole). IsActor (state_of w) c.args.actor) (sym c.self.view_is) c.requires)
+    c.in_ok-turn.ensures.ok c.pass.ensures
+    ∙ ap (λ (w : Whole). stepped (shown w) c.args.actor) c.self.view_is
 
 pub returns-clause-rest : goal.returns-clause-rest
 returns-clause-rest c =
-    elim c.if-get-eq0.branch [
-      | then-get-eq0+in_ok-turn w ↦
-          let lowers = turn_lowers c.self.inside.start c.self.inside.script c.self.inside.run w.take_turn.new.run c.self.inside.turns w.in_ok-turn.turn c.self.invariant w.in_ok-turn.ensures.turned in
-          rw (w.turn-is, w.self-inside-is, ← c.self.view_is) lowers
-      | else-get-eq0 w ↦ rw (w.turn-is, w.self-inside-is, ← c.self.view_is) refl
-    ]
+    subst (λ (w : Whole). LowersRest c.in_ok-turn.turn (state_of w) (state_shown c.self.inside.script (record c.step.new.self { log = c.pass.new.self })))
+    c.self.view_is
+    (rest_lower c.self.inside.script c.self.inside.parts c.step.new.self c.pass.new.self c.args.actor c.in_ok-turn.turn
+    c.self.invariant (subst (λ (w : Whole). IsActor (state_of w) c.args.actor) (sym c.self.view_is) c.requires)
+    c.in_ok-turn.ensures.ok c.pass.ensures)

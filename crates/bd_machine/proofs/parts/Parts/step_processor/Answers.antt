@@ -1,0 +1,61 @@
+use Rattle.std.proofs.Common.{◌≡◌, ◌≢◌, length, refl, sym, ap, subst, arith, get_or}
+use Rattle.bd_base.specs.declared.script.Process.{Process as ScriptProcess}
+use Rattle.bd_base.specs.declared.script.Script.{Script}
+use Rattle.bd_entry.specs.declared.act.Act.TheVariants as acts
+use Rattle.bd_machine.specs.Turns.{AreBuilt, IsAt, IsNextAct}
+use Rattle.bd_machine.proofs.ProcessorBegins.{process_read, process_there}
+use Rattle.bd_machine.proofs.ProcessorFacts.{outcome_idle, took_idle}
+use Rattle.bd_machine.proofs.ProcessorIdle.{none_runs, one_runs, process_of_script}
+use Rattle.bd_machine.proofs.ProcessorKinds.{built_at, revokes_nothing}
+use Rattle.bd_turns.specs.Processors.{running_of}
+use Rattle.bd_turns.specs.State.{holder_of}
+use Rattle.bd_turns.proofs.RunningPlaces.{runs_at}
+use Rattle.bd_machine.proofs.parts.Parts.step_processor.Goals as goal
+
+pub returns-then-from-calls-clause-ok : goal.returns-then-from-calls-clause-ok
+returns-then-from-calls-clause-ok g c =
+    let x = c.args.self.now in
+    let script = c.args.script.now in
+    let m = g.m in
+    let process = c.args.p in
+    let is : IsAt script x m = c.requires.0 in
+    let it : ScriptProcess = c.index-as_slice-get.result in
+    let y = c.index.result.now in
+    let there = process_read x process c.get-2.result y c.get-2.ensures.value (process_there script x m process is.shows c.requires.1) c.index.ensures in
+    let of = process_of_script script process c.get.result c.as_slice.result.now it c.requires.1 c.as_slice.ensures c.get.ensures.value
+    c.index-as_slice-get.is in
+    let same : length (get_or c.as_slice.result.now c.get.result it).calls ≡ length it.calls =
+    ap (λ (q : ScriptProcess). length q.calls) (sym c.index-as_slice-get.is) in
+    let calls = c.len-calls.ensures in
+    let all : y.ended ≡ length it.calls = omega (arith, same, calls, c.from.ensures, c.if-from-calls.true) in
+    let count : length m.script.processes ≡ length script.processes = ap (λ (s : Script). length s.processes) is.shows.script_is in
+    took_idle script x x m process is.shows
+    (outcome_idle m process (omega (arith, count, c.requires.1)) (none_runs script x m process y it is there of all)) refl refl
+
+pub begin-requires : goal.begin-requires
+begin-requires g c =
+    let x = c.args.self.now in
+    let script = c.args.script.now in
+    let m = g.m in
+    let process = c.args.p in
+    let is : IsAt script x m = c.requires.0 in
+    let it : ScriptProcess = c.index-as_slice-get.result in
+    let y = c.index.result.now in
+    let there = process_read x process c.get-2.result y c.get-2.ensures.value (process_there script x m process is.shows c.requires.1) c.index.ensures in
+    let of = process_of_script script process c.get.result c.as_slice.result.now it c.requires.1 c.as_slice.ensures c.get.ensures.value
+    c.index-as_slice-get.is in
+    let same : length (get_or c.as_slice.result.now c.get.result it).calls ≡ length it.calls =
+    ap (λ (q : ScriptProcess). length q.calls) (sym c.index-as_slice-get.is) in
+    let calls = c.len-calls.ensures in
+    let differ : y.ended ≢ length it.calls =
+    λ all. c.if-from-calls.false (omega (arith, same, calls, c.from.ensures, all)) in
+    (is, (c.requires.1, one_runs script x m process y it is there of differ))
+
+pub unreachable-requires : goal.unreachable-requires
+unreachable-requires g c =
+    let m = g.m in
+    let is : IsAt c.args.script.now c.args.self.now m = c.requires.0 in
+    let next : IsNextAct m c.args.p (acts.Revoke c.in-Revoke.field-0) = c.in-Revoke.ensures in
+    let built = built_at m.script next.place.at next.place.call (subst AreBuilt (sym is.shows.script_is) is.built)
+    (runs_at m c.args.p next.place next.running_is).called in
+    revokes_nothing m.store (holder_of m) (running_of m next.place) c.in-Revoke.field-0 built next.next

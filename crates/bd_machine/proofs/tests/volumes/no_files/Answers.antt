@@ -1,6 +1,0 @@
-use Rattle.std.proofs.Common.{arith}
-use Rattle.bd_fs.proofs.NoFiles.{AreValidFiles-none}
-use Rattle.bd_machine.proofs.tests.volumes.no_files.Goals as goal
-
-pub new-requires : goal.new-requires
-new-requires c = rw c.in_ok-free_records.ensures (AreValidFiles-none c.args.total 16 c.requires (omega arith))

@@ -1,0 +1,195 @@
+-- What the steps of a device engine's turn ask for.
+use Rattle.std.specs.Prelude.{◌≡◌, ℕ, ◌+◌, ◌<◌, List, [], ◌∷◌, ◌++◌, IsSome, Option, None, Some}
+use Rattle.bd_base.specs.declared.journal.At.{At}
+use Rattle.bd_base.specs.declared.journal.Found.{Found}
+use Rattle.bd_base.specs.declared.script.Call.{Call}
+use Rattle.bd_base.specs.Scripts.{IsCall}
+use Rattle.bd_entry.specs.declared.entry.Entry.{Entry}
+use Rattle.bd_entry.specs.declared.entry.Entry.TheVariants.{Missed}
+use Rattle.bd_entry.specs.Calls.{Place, entries_of}
+use Rattle.bd_entry.specs.NextEntries.{IsLegalAt}
+use Rattle.bd_entry.specs.Store.{Store, Valid}
+use Rattle.bd_kernel.specs.Disks.{DiskState, IsDiskOf}
+use Rattle.bd_machine.specs.declared.parts.Parts.{Parts}
+use Rattle.bd_machine.specs.declared.process.Hand.{Hand}
+use Rattle.bd_machine.specs.declared.process.Phase.{Phase}
+use Rattle.bd_machine.specs.declared.process.Phase.TheVariants.{Retiring}
+use Rattle.bd_machine.specs.declared.process.Process.{Process}
+use Rattle.bd_machine.specs.Logs.{HasRoom}
+use Rattle.bd_machine.specs.Shows.{IsCommandOf, Shows, request_of_command}
+use Rattle.bd_machine.specs.Turns.{AreFew, HasBegun, IsAt, OthersStay, Sight, StaysAt, process_in}
+use Rattle.bd_queue_pair.specs.declared.command.Command.{Command}
+use Rattle.bd_queue_pair.specs.declared.command.DoneKind.{DoneKind}
+use Rattle.bd_tables.specs.declared.request.Completion.{Completion}
+use Rattle.bd_tables.specs.declared.request.Request.{Request}
+use Rattle.bd_tables.specs.Kernel.{IsLimit}
+use Rattle.bd_tables.specs.Plain.{PlainState}
+use Rattle.bd_tables.specs.State.{found_of, told_of, walk_at}
+use Rattle.bd_turns.specs.declared.turn.Row.{Row}
+use Rattle.bd_turns.specs.Engines.{Step, engine_step, move_entry_of}
+use Rattle.bd_turns.specs.State as turns
+use Rattle.bd_turns.specs.State.{InHand, State, progress_of, running, with_progress}
+use Rattle.bd_turns.specs.Turns.{Nothing, engine_outcome, with_entry_if_any}
+
+-- the entry of a direct access, at its place in a store
+pub record MoveAt : Type 0 where
+  pub store : Store
+  pub place : Place
+  pub entry : Entry
+
+-- the entry is the legal one of the direct access of this command on the block, in the store of this disk, by the call
+-- at this place
+pub record IsMoveOf (disk : DiskState) (call : Call) (at : At) (command : Command) (block : ℕ) (g : MoveAt) :
+    Type 0 where
+  pub disk_is : IsDiskOf disk g.store
+  pub valid : Valid g.store
+  pub within : IsCall call
+  pub call_is : g.place.call ≡ call
+  pub at_is : g.place.at ≡ at
+  pub command_is : IsCommandOf g.place command
+  pub moved : move_entry_of g.store g.place command.piece block ≡ Some g.entry
+  pub legal : IsLegalAt g.store g.place g.entry
+
+-- ---- what an engine begins with
+
+-- the process is there
+pub record IsThere (x : Parts) (process : ℕ) : Type 0 where
+  pub it : Process
+  pub there : process_in x process ≡ Some it
+
+-- its engine keeps its pass
+pub record KeepsPass (x : Parts) (process : ℕ) : Type 0 where
+  pub it : Process
+  pub there : process_in x process ≡ Some it
+  pub some : IsSome it.pass
+
+-- its engine has a command in its hand
+pub record HasCommand (x : Parts) (process : ℕ) : Type 0 where
+  pub it : Process
+  pub there : process_in x process ≡ Some it
+  pub some : IsSome it.hand
+
+-- its engine has a command in its hand, the one that it took, and knows what became of it
+pub record HasAnswer (x : Parts) (process : ℕ) : Type 0 where
+  pub it : Process
+  pub there : process_in x process ≡ Some it
+  pub hand : Hand
+  pub in_hand : it.hand ≡ Some hand
+  pub taken : it.queue.in_hand ≡ hand.command ∷ []
+  pub some : IsSome hand.outcome
+
+-- the parts show this state, and the engine of the process has no command in its hand
+pub record IsFree (g : Sight) (x : Parts) (process : ℕ) : Type 0 where
+  pub at : IsAt g.script x g.state
+  pub it : Process
+  pub there : process_in x process ≡ Some it
+  pub free : it.hand ≡ None
+  pub room : HasRoom x.log
+
+-- the parts show this state, and the engine of the process has a command in its hand, in this phase
+pub record IsWorking (g : Sight) (x : Parts) (process : ℕ) (phase : Phase) : Type 0 where
+  pub at : IsAt g.script x g.state
+  pub it : Process
+  pub there : process_in x process ≡ Some it
+  pub hand : Hand
+  pub in_hand : it.hand ≡ Some hand
+  pub phase_is : it.phase ≡ phase
+  pub room : HasRoom x.log
+
+-- ---- what it leaves
+
+-- the process is this one now and the tables are these, and nothing else of the parts changed
+pub record Becomes (old new : Parts) (process : ℕ) (tables : PlainState) (y : Process) : Type 0 where
+  pub tables_are : new.tables ≡ tables
+  pub disk : new.disk ≡ old.disk
+  pub log : new.log ≡ old.log
+  pub others : OthersStay old new process
+  pub mine : process_in new process ≡ Some y
+
+-- the process with its oldest command in hand, before others that are submitted
+abbrev pub with_command : Process → Command → List Command → Process
+with_command y c rest =
+    record y {
+      queue = record y.queue { submitted = rest; in_hand = y.queue.in_hand ++ c ∷ [] };
+      hand = Some (record { command = c; outcome = None });
+    }
+
+-- the process with the command in hand given back, of which this became
+abbrev pub without_command : Process → Command → DoneKind → Process
+without_command y c kind =
+    record y {
+      queue = record y.queue {
+        in_hand = [];
+        completed = y.queue.completed ++ (record { piece = c.piece; outcome = kind }) ∷ [];
+      };
+      hand = None;
+    }
+
+-- the oldest command of the process was taken in hand, and this is what is asked of the tables for it
+pub record TakesOldest (old new : Parts) (process : ℕ) (y : Process) (request : Request) : Type 0 where
+  pub command : Command
+  pub rest : List Command
+  pub submitted : y.queue.submitted ≡ command ∷ rest
+  pub request_is : request ≡ request_of_command process command
+  pub hi : IsLimit request.hi
+  pub becomes : Becomes old new process old.tables (with_command y command rest)
+
+-- that, or there is none
+abbrev pub TakesCommand : Parts → Parts → ℕ → Process → Option Request → Type 0
+TakesCommand old new process y None = (y.queue.submitted ≡ []) × Becomes old new process old.tables y
+TakesCommand old new process y (Some request) = TakesOldest old new process y request
+
+-- the process with what became of the command in its hand
+abbrev pub with_answer : Process → Hand → DoneKind → Process
+with_answer y hand kind = record y { hand = Some (record hand { outcome = Some kind }); phase = Retiring }
+
+-- the state after a step of an engine, but for the end of its turn
+abbrev pub state_stepped : State → Place → Step → State
+state_stepped m p step =
+    with_progress (record (with_entry_if_any m p step.entry) { tables = step.tables }) p.at.process step.progress
+
+-- the engine of the process took its step, of this row, but for the end of its turn
+pub record TakesStep (g : Sight) (old new : Parts) (process : ℕ) (row : Row) : Type 0 where
+  pub place : Place
+  pub running_is : running g.state process ≡ Some place
+  pub step : Step
+  pub stepping : engine_step g.state place ≡ Some step
+  pub row_is : step.row ≡ row
+  pub shows : Shows g.script new (state_stepped g.state place step)
+  pub before : List Entry
+  pub still : running (state_stepped g.state place step) place.at.process ≡ Some (record place { before = before })
+  pub later : entries_of (record { process = place.at.process; call = place.at.call + 1 })
+      (state_stepped g.state place step).journal ≡ []
+  pub begun : HasBegun new process
+  pub few : AreFew new process
+  pub events : new.log.events ≡ old.log.events
+  pub turns : new.log.turns ≡ old.log.turns
+  pub room : 0 < new.log.event_room
+
+-- it took its step, or it has nothing to do
+abbrev pub StepsIfAny : Sight → Parts → Parts → ℕ → Option Row → Type 0
+StepsIfAny g old new process None = (engine_outcome g.state process ≡ Nothing) × StaysAt g.script old new g.state
+StepsIfAny g old new process (Some row) = TakesStep g old new process row
+
+-- ---- the entries that it adds
+
+-- the entry tells what the walk for the command in hand found
+pub record IsMissInHand (m : State) (process : ℕ) (found : Found) (entry : Entry) : Type 0 where
+  pub place : Place
+  pub running_is : running m process ≡ Some place
+  pub hand : InHand
+  pub in_hand : (progress_of m process).hand ≡ Some hand
+  pub phase_is : hand.phase ≡ turns.Missing
+  pub found_is : found_of (walk_at m.tables.walks process) ≡ Some found
+  pub entry_is : entry ≡ Missed place.at hand.piece found
+
+-- the entry is the direct access of the command in hand, by the translation that its engine holds
+pub record IsMoveInHand (m : State) (process : ℕ) (entry : Entry) : Type 0 where
+  pub place : Place
+  pub running_is : running m process ≡ Some place
+  pub hand : InHand
+  pub in_hand : (progress_of m process).hand ≡ Some hand
+  pub phase_is : hand.phase ≡ turns.Moving
+  pub completion : Completion
+  pub told : told_of (walk_at m.tables.walks process) ≡ Some completion
+  pub moved : move_entry_of m.store place hand.piece completion.block ≡ Some entry

@@ -1,0 +1,172 @@
+-- How the parts of a machine show a state of the abstract machine.
+use Rattle.std.specs.Prelude.{◌≡◌, ℕ, ◌/◌, ◌%◌, Bool, true, false, List, [], map, length, slice_get, slice_index_or, All, Option, None, Some}
+use Rattle.std.specs.Option.{option_map, option_to_list}
+use Rattle.bd_base.specs.declared.limits.TheConstants.{FILE_BLOCKS}
+use Rattle.bd_base.specs.declared.script.Process.{Process as ScriptProcess}
+use Rattle.bd_base.specs.declared.script.Script.{Script}
+use Rattle.bd_base.specs.declared.volume.Volume.{Volume}
+use Rattle.bd_base.specs.Pieces.{Piece}
+use Rattle.bd_entry.specs.Calls.{Place, has_missed, piece_of_call}
+use Rattle.bd_entry.specs.Store.{user_of}
+use Rattle.bd_kernel.specs.Disks.{IsDiskOf}
+use Rattle.bd_kernel.specs.Turns.{AreEntriesOf}
+use Rattle.bd_kernel.specs.Turns as kernel
+use Rattle.bd_machine.specs.declared.parts.Parts.{Parts}
+use Rattle.bd_machine.specs.declared.process.Hand.{Hand}
+use Rattle.bd_machine.specs.declared.process.Phase.{Phase}
+use Rattle.bd_machine.specs.declared.process.Phase.TheVariants as phases
+use Rattle.bd_machine.specs.declared.process.Process.{Process}
+use Rattle.bd_queue_pair.specs.declared.command.Command.{Command}
+use Rattle.bd_queue_pair.specs.declared.command.Done.{Done}
+use Rattle.bd_queue_pair.specs.declared.command.DoneKind.{DoneKind}
+use Rattle.bd_queue_pair.specs.declared.command.DoneKind.TheVariants as kinds
+use Rattle.bd_tables.specs.declared.plain.PlainPass.{PlainPass}
+use Rattle.bd_tables.specs.declared.request.Request.{Request}
+use Rattle.bd_tables.specs.Passes.{IsLent}
+use Rattle.bd_tables.specs.Plain.{LiesHere, PlainState, tables_of}
+use Rattle.bd_turns.specs.Engines.{key_for, request_of_piece}
+use Rattle.bd_turns.specs.Reached.{IsReached}
+use Rattle.bd_turns.specs.Sound.{has_told}
+use Rattle.bd_turns.specs.State as turns
+use Rattle.bd_turns.specs.State.{Completed, InHand, Progress, State, outstanding, progress_of, running}
+
+-- a state that a machine can come to
+abbrev pub Reached : State → Type 0
+Reached m = (v : Volume) × IsReached v m
+
+-- ---- how far a process is
+
+-- what an engine does next, in the words of the abstract machine
+abbrev pub phase_of : Phase → turns.Phase
+phase_of phases.Looking = turns.Looking
+phase_of phases.Reading = turns.Reading
+phase_of phases.Filling = turns.Filling
+phase_of phases.Moving = turns.Moving
+phase_of phases.Missing = turns.Missing
+phase_of phases.Retiring = turns.Retiring
+phase_of phases.Completing = turns.Completing
+
+-- the command in hand
+abbrev pub in_hand_of : Phase → Hand → InHand
+in_hand_of phase hand = record { piece = hand.command.piece; phase = phase_of phase }
+
+-- whether the walk of a completed command missed
+abbrev pub is_miss : DoneKind → Bool
+is_miss kinds.Moved = false
+is_miss (kinds.Missed found) = true
+
+-- a completed command
+abbrev pub completed_of : Done → Completed
+completed_of done = record { piece = done.piece; missed = is_miss done.outcome }
+
+-- the pieces of commands
+abbrev pub pieces_of_commands : List Command → List ℕ
+pieces_of_commands commands = map (λ (c : Command). c.piece) commands
+
+-- how far the process is that holds this file
+abbrev pub progress_shown : Option ℕ → Process → Progress
+progress_shown held x =
+    record {
+      ended = x.ended;
+      used = x.used;
+      held = held;
+      submitted = pieces_of_commands x.queue.submitted;
+      hand = option_map (in_hand_of x.phase) x.hand;
+      completed = map completed_of x.queue.completed;
+    }
+
+-- ---- its running call
+
+-- what the engine of a process asks of the tables for a command
+abbrev pub request_of_command : ℕ → Command → Request
+request_of_command process c =
+    let index = c.vba % FILE_BLOCKS in
+    record {
+      key = key_for process (c.vba / FILE_BLOCKS) index;
+      index = index;
+      hi = c.range.hi;
+      write = c.wrote;
+    }
+
+-- the command is that of its piece
+pub record IsCommandOf (p : Place) (c : Command) : Type 0 where
+  pub piece : Piece
+  pub piece_is : piece_of_call p.call c.piece ≡ Some piece
+  pub range : c.range ≡ piece.range
+  pub request : request_of_piece p c.piece ≡ Some (request_of_command p.at.process c)
+
+-- what is kept of the running call is of it
+pub record IsCallKept (m : State) (p : Place) (c : kernel.Progress) : Type 0 where
+  pub call : c.call ≡ p.call
+  pub process : c.process ≡ p.at.process
+  pub uid : c.uid ≡ user_of m.store p.at.process
+  pub entries : AreEntriesOf c p.before
+  pub outstanding : c.outstanding ≡ outstanding (progress_of m p.at.process)
+
+-- the call was not begun: it has no entry and no command
+pub record IsNotBegun (m : State) (p : Place) : Type 0 where
+  pub entries : p.before ≡ []
+  pub outstanding : outstanding (progress_of m p.at.process) ≡ []
+
+-- what was kept of the running call, begun or not, is of it
+abbrev pub IsCallAt : State → Place → Option kernel.Progress → Type 0
+IsCallAt m p None = IsNotBegun m p
+IsCallAt m p (Some c) = IsCallKept m p c
+
+-- what became of a command in hand is kept exactly where the journal tells of it
+abbrev pub IsOutcome : Bool → Bool → Option DoneKind → Type 0
+IsOutcome false missed None = Unit {0}
+IsOutcome false missed (Some kind) = ⊥
+IsOutcome true missed None = ⊥
+IsOutcome true missed (Some kind) = is_miss kind ≡ missed
+
+-- the command in hand, with what became of it
+pub record IsHandOf (p : Place) (phase : Phase) (hand : Hand) : Type 0 where
+  pub command : IsCommandOf p hand.command
+  pub outcome : IsOutcome (has_told (phase_of phase)) (has_missed hand.command.piece p.before) hand.outcome
+
+-- whether an engine with a command in this phase walks with its pass
+abbrev pub has_pass : Phase → Bool
+has_pass phases.Completing = false
+has_pass phase = true
+
+-- the pass of an engine that walks is lent and kept; that of another lies in the tables
+abbrev pub IsPassKept : PlainState → ℕ → Option PlainPass → Type 0
+IsPassKept tables process None = ⊥
+IsPassKept tables process (Some pass) = (pass.process ≡ process) × IsLent tables pass
+
+abbrev pub IsPassWhere : Bool → PlainState → ℕ → Option PlainPass → Type 0
+IsPassWhere true tables process pass = IsPassKept tables process pass
+IsPassWhere false tables process pass = LiesHere tables.places process × (pass ≡ None)
+
+-- the same for an engine with this in its hand
+abbrev pub does_walk : Phase → Option Hand → Bool
+does_walk phase None = false
+does_walk phase (Some hand) = has_pass phase
+
+-- a process of the machine is where the abstract machine has it
+pub record IsProcessAt (m : State) (held : Option ℕ) (tables : PlainState) (process : ℕ) (x : Process) :
+    Type 0 where
+  pub progress : progress_of m process ≡ progress_shown held x
+  pub call : (p : Place) → running m process ≡ Some p → IsCallAt m p x.call
+  pub none : running m process ≡ None → x.call ≡ None
+  pub submitted : (p : Place) → running m process ≡ Some p → All (IsCommandOf p) x.queue.submitted
+  pub taken : x.queue.in_hand ≡ option_to_list (option_map (λ (h : Hand). h.command) x.hand)
+  pub hand : (p : Place) (h : Hand) → running m process ≡ Some p → x.hand ≡ Some h → IsHandOf p x.phase h
+  pub pass : IsPassWhere (does_walk x.phase x.hand) tables process x.pass
+
+-- ---- all of it
+
+-- the parts of a machine that runs the script show this state
+pub record Shows (script : Script) (x : Parts) (m : State) : Type 0 where
+  pub script_is : m.script ≡ script
+  pub disk : IsDiskOf x.disk m.store
+  pub users : m.store.uids ≡ map (λ (p : ScriptProcess). p.uid) script.processes
+  pub holders : length x.disk.held ≡ length script.processes
+  pub journal : m.journal ≡ x.log.entries
+  pub tables : m.tables ≡ tables_of x.tables
+  pub posted : m.posted ≡ []
+  pub count : length x.processes.items ≡ length script.processes
+  pub progresses : length m.processes ≡ length script.processes
+  pub each : (process : ℕ) (y : Process) → slice_get x.processes.items process ≡ Some y →
+      IsProcessAt m (slice_index_or x.disk.held process None) x.tables process y
