@@ -113,9 +113,14 @@ fn run_make(rt: &HostRuntime, words: &[String], image: &str, script: &str) -> St
 /// Runs the command that the words say on the files that they name.
 fn run(rt: &HostRuntime, words: &[String]) -> Status {
     match read_words(words) {
-        Some(Command::Replay {
-            image, script, out, ..
-        }) => run_replay(rt, words, image, script, out),
+        Some(
+            Command::Replay {
+                image,
+                script,
+                out,
+                ..
+            },
+        ) => run_replay(rt, words, image, script, out),
         Some(
             Command::Verify {
                 image,
