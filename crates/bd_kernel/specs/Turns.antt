@@ -45,14 +45,28 @@ pub record AreEntriesOf (c : Progress) (entries : List Entry) : Type 0 where
   pub marks : AreMarksOf c.marks entries
   pub finished : c.finished ≡ is_ended_by c.call entries
 
+-- the answer is the next action of a call of a process, with these pieces outstanding, in each store of these files and
+-- descriptors where the process has this user, whatever its entries so far may be of which the marks are
+abbrev pub IsNextActOf : Files → Table → Call → ℕ → ℕ → Marks → List ℕ → Option Act → Type 0
+IsNextActOf fs table call process uid marks outstanding answer =
+    InStore fs table.rows
+    (λ s. user_of s process ≡ uid → (number : ℕ) (before : List Entry) → AreMarksOf marks before →
+    answer ≡ next_act s (holder_in table.held)
+    (record { place = place_of call process number before; outstanding = outstanding }))
+
 -- the answer is the next action of the call in each store of these files and descriptors where its process has its
 -- user, whatever its entries so far may be
 abbrev pub IsNextAct : Files → Table → Progress → Option Act → Type 0
-IsNextAct fs table c answer =
+IsNextAct fs table c answer = IsNextActOf fs table c.call c.process c.uid c.marks c.outstanding answer
+
+-- the answer is the first action of a call of a process, which has no entry and no command, in each store of these files
+-- and descriptors where the process has this user
+abbrev pub IsFirstAct : Files → Table → Call → ℕ → ℕ → Option Act → Type 0
+IsFirstAct fs table call process uid answer =
     InStore fs table.rows
-    (λ s. user_of s c.process ≡ c.uid → (number : ℕ) (before : List Entry) → AreEntriesOf c before →
+    (λ s. user_of s process ≡ uid → (number : ℕ) →
     answer ≡ next_act s (holder_in table.held)
-    (record { place = place_of c.call c.process number before; outstanding = c.outstanding }))
+    (record { place = place_of call process number []; outstanding = [] }))
 
 -- the answer is the file of the call in each store of these files and descriptors, whatever its entries so far may be
 abbrev pub IsFileOf : Files → Table → Progress → Option ℕ → Type 0

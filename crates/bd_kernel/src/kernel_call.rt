@@ -8,10 +8,10 @@ ghost use Rattle.bd_entry.specs.Actions.{before_beginning, has_begun, keys_to_re
 ghost use Rattle.bd_entry.specs.Refusals.{first_refusal};
 ghost use Rattle.bd_entry.specs.Store.{user_of};
 ghost use Rattle.bd_kernel.specs.Holders.{holder_in};
-ghost use Rattle.bd_kernel.specs.Marks.{HasPieceOf};
+ghost use Rattle.bd_kernel.specs.Marks.{AreMarksOf, HasPieceOf};
 ghost use Rattle.bd_kernel.specs.Sights.{AtPlace, place_of};
-ghost use Rattle.bd_entry.specs.Calls.{fd_of_call};
-ghost use Rattle.bd_kernel.specs.Turns.{ArePieceMarksOf, AreEntriesOf, IsFileOf, IsNextAct, IsSameCall, Takes};
+ghost use Rattle.bd_entry.specs.Calls.{Place, fd_of_call};
+ghost use Rattle.bd_kernel.specs.Turns.{ArePieceMarksOf, AreEntriesOf, IsFileOf, IsFirstAct, IsNextAct, IsNextActOf, IsSameCall, Takes};
 
 use crate::beginning::before_beginning;
 use crate::calls::fd_of_call;
@@ -171,6 +171,14 @@ fn pieces_act(
     kernel_part(fs, descriptors, call, process, running)
 }
 
+/// Whether a call with these marks of its entries has begun: it has one, or a command of it is outstanding.
+fn has_begun(running: &RunningCall, outstanding: &[u8]) -> bool
+    ensures { (p : Place) → AreMarksOf running.now p.before → result
+        ≡ has_begun (record { place = p; outstanding = outstanding.now }) }
+{
+    !outstanding.is_empty() || running.has_begun()
+}
+
 /// What keeps the call of a process of this user from beginning, where it has not begun.
 fn first_act(
     fs: &Fs,
@@ -215,6 +223,28 @@ fn act_in_course(
     own_act(fs, descriptors, call, process, running, outstanding)
 }
 
+/// The first action that a call of a process of this user still needs, with these marks of its entries so far and
+/// these pieces outstanding.
+fn next_act(
+    fs: &Fs,
+    descriptors: &Descriptors,
+    call: &Call,
+    process: Pid,
+    uid: u32,
+    running: &RunningCall,
+    outstanding: &[u8],
+) -> Option<Act>
+    requires { IsCall call.now }
+    ensures { IsNextActOf fs.now descriptors.now call.now process uid running.now outstanding.now result }
+{
+    let begun = has_begun(running, outstanding);
+    let act = first_act(fs, descriptors, call, process, uid, running, begun);
+    if act.is_some() {
+        return act;
+    }
+    act_in_course(fs, descriptors, call, process, running, outstanding)
+}
+
 impl KernelCall {
     /// A call that has done nothing yet. The only error is that no memory is found.
     pub fn begin(
@@ -232,26 +262,14 @@ impl KernelCall {
         ensures runs { IfOk result (λ c. c.finished ≡ false) }
     {
         let copy = copy_call(alloc, call)?;
-        let running = RunningCall::new(alloc)?;
         Ok(KernelCall {
             call: copy,
             process,
             uid,
-            running,
+            running: RunningCall::new(),
             outstanding: Outstanding::new(),
             finished: false,
         })
-    }
-
-    /// Whether the call has begun: it has an entry, or a command of it is outstanding.
-    fn has_begun(&self) -> bool
-        ensures { (before : List Entry) → AreEntriesOf self.now before → (number : ℕ) → result
-            ≡ has_begun (record {
-              place = place_of self.now.call self.now.process number before;
-              outstanding = self.now.outstanding;
-            }) }
-    {
-        !self.outstanding.is_empty() || self.running.has_begun()
     }
 
     /// The first action of the call that is still needed; None where there is none.
@@ -261,27 +279,31 @@ impl KernelCall {
     pub fn next(&self, fs: &Fs, descriptors: &Descriptors) -> Option<Act>
         ensures { IsNextAct fs.now descriptors.now self.now result }
     {
-        let begun = self.has_begun();
-        let act = first_act(
+        next_act(
             fs,
             descriptors,
             &self.call,
             self.process,
             self.uid,
             &self.running,
-            begun,
-        );
-        if act.is_some() {
-            return act;
-        }
-        act_in_course(
-            fs,
-            descriptors,
-            &self.call,
-            self.process,
-            &self.running,
             self.outstanding.as_slice(),
         )
+    }
+
+    /// What [`KernelCall::next`] answers of this call of a process of this user as soon as it is begun. This takes no
+    /// memory.
+    pub fn first(
+        fs: &Fs,
+        descriptors: &Descriptors,
+        call: &Call,
+        process: Pid,
+        uid: u32,
+    ) -> Option<Act>
+        requires { IsCall call.now }
+        ensures { IsFirstAct fs.now descriptors.now call.now process uid result }
+    {
+        let running = RunningCall::new();
+        next_act(fs, descriptors, call, process, uid, &running, &[])
     }
 
     /// Takes note of an entry that was added in its name: by its processor, by its device engine, or by the invalidation
@@ -328,7 +350,8 @@ impl KernelCall {
 
     /// The descriptor of the call: the one that an open opened, that of a raw command's address, or the one named.
     pub fn fd(&self) -> Option<u8>
-        ensures { (before : List Entry) → AreEntriesOf self.now before → result ≡ fd_of_call self.now.call before }
+        ensures { (before : List Entry) → AreEntriesOf self.now before
+            → result ≡ fd_of_call self.now.call before }
     {
         fd_of_call(&self.call, self.running.opened())
     }

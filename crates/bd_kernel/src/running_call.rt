@@ -5,14 +5,13 @@ ghost use Rattle.std.specs.List.{list_all, range_with_len};
 ghost use Rattle.bd_base.specs.declared.limits.TheConstants.{PIECES};
 ghost use Rattle.bd_base.specs.declared.key_list.TheConstants.{MOST_KEYS};
 ghost use Rattle.bd_kernel.specs.Marks.{number_of_key};
-ghost use Rattle.std.specs.Prelude.{◌≡◌, ℕ, ◌<◌, ◌++◌, ◌∷◌, [], None, Some, IfOk, List, length};
+ghost use Rattle.std.specs.Prelude.{◌≡◌, ℕ, ◌<◌, ◌++◌, ◌∷◌, [], None, Some, List, length};
 ghost use Rattle.bd_entry.specs.declared.entry.Entry.{Entry};
 ghost use Rattle.bd_kernel.specs.Marks.{AreMarksOf, HasKeyOf, HasPieceOf, HasRoom, IsKey, is_marked, noted};
 
 use crate::marks::is_marked;
-use bd_base::{DESCRIPTORS, Fd, MOST_KEYS, OutOfMemory, PARTS, PIECES, Part, Pid};
+use bd_base::{DESCRIPTORS, Fd, MOST_KEYS, PARTS, PIECES, Part, Pid};
 use bd_entry::Entry;
-use std::alloc::Global;
 use std::marker::Model;
 
 /// How many pieces a call may have.
@@ -30,7 +29,7 @@ pub struct RunningCall {
     // Which pieces have their Missed.
     missed: [bool; PIECE_COUNT],
     // Which keys have their Cleared, by their numbers.
-    cleared: Vec<bool>,
+    cleared: [bool; MOST_KEYS],
     // Whether any has: only then is there something to reset.
     has_cleared: bool,
 }
@@ -42,9 +41,9 @@ impl Model for RunningCall {
 
     ghost Value = { Marks };
 
-    ghost view = { λ a. record { begun = a.begun; opened = a.opened; answered = a.answered; missed = a.missed; cleared = a.cleared.items } };
+    ghost view = { λ a. record { begun = a.begun; opened = a.opened; answered = a.answered; missed = a.missed; cleared = a.cleared } };
 
-    ghost invariant = { λ a. HasSpareMarks a.has_cleared a.cleared.items };
+    ghost invariant = { λ a. HasSpareMarks a.has_cleared a.cleared };
 }
 
 /// The number of a key among all keys.
@@ -58,19 +57,18 @@ fn key_number(process: Pid, fd: Fd, part: Part) -> usize
 }
 
 impl RunningCall {
-    /// No entry.
-    pub fn new(alloc: Global) -> Result<RunningCall, OutOfMemory>
-        ensures { IfOk result (λ call. AreMarksOf call []) }
+    /// No entry. This takes no memory.
+    pub fn new() -> RunningCall
+        ensures { AreMarksOf result [] }
     {
-        let cleared = vec![in alloc; false; MOST_KEYS]?;
-        Ok(RunningCall {
+        RunningCall {
             begun: false,
             opened: None,
             answered: [false; PIECE_COUNT],
             missed: [false; PIECE_COUNT],
-            cleared,
+            cleared: [false; MOST_KEYS],
             has_cleared: false,
-        })
+        }
     }
 
     /// Whether there is an entry.

@@ -16,7 +16,7 @@ use Rattle.bd_machine.specs.declared.process.Phase.{Phase}
 use Rattle.bd_machine.specs.declared.process.Phase.TheVariants as phases
 use Rattle.bd_machine.specs.declared.process.Process.{Process}
 use Rattle.bd_machine.specs.Engines.{Becomes, IsFree, TakesOldest, TakesStep, with_command}
-use Rattle.bd_machine.specs.Logs.{LogState}
+use Rattle.bd_machine.specs.Logs.{HasRoom, LogState}
 use Rattle.bd_machine.specs.Shows.{IsCommandOf, IsHandOf, IsOutcome, IsPassWhere, IsProcessAt, Shows, does_walk, has_pass, in_hand_of, phase_of, pieces_of_commands, progress_shown, request_of_command}
 use Rattle.bd_machine.specs.Turns.{Sight, StaysAt, process_in}
 use Rattle.bd_machine.proofs.EngineFacts.{Working, working}
@@ -137,7 +137,7 @@ pub record Enters (x x1 y : Parts) (q : ℕ) (it : Process) (request : Request) 
   pub phase_is : phase_of next ≡ phase_after found turns.Looking
   pub again : Becomes (record x1 { tables = t }) y q t (record (with_command it taken.command taken.rest) { phase = next; pass = Some back })
 
-module _ (g : Sight) (x x1 y : Parts) (q : ℕ) (w : IsFree g x q) (request : Request) (lent back : PlainPass) (answer : Walked)
+module _ (g : Sight) (x x1 y : Parts) (q : ℕ) (w : IsFree g x q) (room : HasRoom x.log) (request : Request) (lent back : PlainPass) (answer : Walked)
     (found : Option Found) (next : Phase) (t1 t : PlainState) (s : Enters x x1 y q w.it request lent back answer found next t1 t) where
   abbrev c : Command
   c = s.taken.command
@@ -270,4 +270,4 @@ module _ (g : Sight) (x x1 y : Parts) (q : ℕ) (w : IsFree g x q) (request : Re
 
   pub enters_on : TakesStep g x y q (rows.Enter found)
   enters_on =
-      takes_quiet g x y q w.it z t (rows.Enter found) (effects.enter m.tables request) new w.at w.there w.room known process_steps refl stepping
+      takes_quiet g x y q w.it z t (rows.Enter found) (effects.enter m.tables request) new w.at w.there room known process_steps refl stepping

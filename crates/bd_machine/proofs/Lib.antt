@@ -8,6 +8,7 @@ pub mod ProcessorSteps
 pub mod ProcessorCommands
 pub mod ProcessorEnds
 pub mod ProcessorSubmits
+pub mod ProcessorWaits
 pub mod ProcessorBegins
 pub mod ProcessorNext
 pub mod ProcessorReady

@@ -12,6 +12,7 @@ use Rattle.bd_base.specs.Scripts.{IsCall}
 use Rattle.bd_entry.specs.Calls.{Place, call_at}
 use Rattle.bd_entry.specs.Store.{user_of}
 use Rattle.bd_entry.proofs.HistoryLaws.{is_call}
+use Rattle.bd_entry.proofs.Slots.{some_of}
 use Rattle.bd_kernel.specs.Turns as kernel
 use Rattle.bd_kernel.specs.Turns.{AreEntriesOf}
 use Rattle.bd_machine.specs.declared.parts.Parts.{Parts}
@@ -22,6 +23,7 @@ use Rattle.bd_machine.proofs.ProcessorSteps.{same_step, with_process}
 use Rattle.bd_turns.specs.State.{Progress, State, progress_of, running}
 use Rattle.bd_turns.proofs.Acting.{process_within}
 use Rattle.bd_turns.proofs.Cases.{running_process}
+use Rattle.bd_turns.proofs.FoundElements.{slice_get-there}
 use Rattle.bd_turns.proofs.RunningPlaces.{runs_at}
 
 -- ---- what is read
@@ -37,6 +39,10 @@ process_read x process i y same within is =
 pub process_there : (script : Script) (x : Parts) (m : State) (process : ℕ) → Shows script x m → process < length script.processes →
     process < length x.processes.items
 process_there script x m process shows within = omega (arith, within, shows.count)
+
+-- which one it is
+pub element_there : (x : Parts) (process : ℕ) → process < length x.processes.items → (y : Process) × (process_in x process ≡ Some y)
+element_there x process within = some_of (process_in x process) (slice_get-there x.processes.items process within)
 
 -- so is one with a running call
 pub runs_there : (script : Script) (x : Parts) (m : State) (process : ℕ) (p : Place) → Shows script x m → running m process ≡ Some p →

@@ -25,7 +25,7 @@ use Rattle.bd_turns.specs.State.{State, holder_of, running, running_at}
 use Rattle.bd_turns.proofs.RunningPlaces.{runs_at}
 
 -- the store that a disk shows is that of its files, bytes and descriptors
-store_shown : (d : DiskState) (s : Store) → IsDiskOf d s → store_of (files_on d) d.rows s.uids s.bytes s.work ≡ s
+pub store_shown : (d : DiskState) (s : Store) → IsDiskOf d s → store_of (files_on d) d.rows s.uids s.bytes s.work ≡ s
 store_shown d s is =
     λ i. record { total = sym is.total i; uids = s.uids; files = sym is.files i; bytes = s.bytes; opens = sym is.opens i; work = s.work }
 
@@ -47,7 +47,7 @@ next_shown script x m p y c fs table answer here files rows is =
       place = record { call = mine.call i; at = record { process = mine.process i; call = p.at.call }; before = p.before };
       outstanding = mine.outstanding i;
     } in
-    next m.store.uids m.store.bytes m.store.work user p.at.call p.before mine.entries
+    next m.store.uids m.store.bytes m.store.work user p.at.call p.before mine.entries.marks
     ∙ ap (λ (t : Store). next_act t (holder_in x.disk.held) kept_run) store
     ∙ ap (λ (h : Holders). next_act m.store h kept_run) holders ∙ ap (λ (r : Running). next_act m.store (holder_of m) r) run
 

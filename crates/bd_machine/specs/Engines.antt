@@ -78,13 +78,16 @@ pub record HasAnswer (x : Parts) (process : ℕ) : Type 0 where
   pub taken : it.queue.in_hand ≡ hand.command ∷ []
   pub some : IsSome hand.outcome
 
+-- the engine of the process has no command in its hand, and none is submitted
+abbrev pub HasNoCommand : Parts → ℕ → Type 0
+HasNoCommand x process = (y : Process) → process_in x process ≡ Some y → (y.hand ≡ None) × (y.queue.submitted ≡ [])
+
 -- the parts show this state, and the engine of the process has no command in its hand
 pub record IsFree (g : Sight) (x : Parts) (process : ℕ) : Type 0 where
   pub at : IsAt g.script x g.state
   pub it : Process
   pub there : process_in x process ≡ Some it
   pub free : it.hand ≡ None
-  pub room : HasRoom x.log
 
 -- the parts show this state, and the engine of the process has a command in its hand, in this phase
 pub record IsWorking (g : Sight) (x : Parts) (process : ℕ) (phase : Phase) : Type 0 where

@@ -31,6 +31,8 @@ use Rattle.bd_machine.specs.Shows.{Reached, Shows}
 use Rattle.bd_tables.specs.Plain.{tables_of}
 use Rattle.bd_turns.specs.declared.turn.Row.{Row}
 use Rattle.bd_turns.specs.declared.turn.Turn.{Turn}
+use Rattle.bd_turns.specs.declared.turn.Wait.{Wait}
+use Rattle.bd_turns.specs.declared.turn.Wait.TheVariants as waits
 use Rattle.bd_turns.specs.Course.{event_of}
 use Rattle.bd_turns.specs.Processors.{Adds, next_action, running_of}
 use Rattle.bd_turns.specs.State.{State, holder_of, running}
@@ -78,6 +80,11 @@ pub record IsNextAct (m : State) (process : ℕ) (act : Act) : Type 0 where
   pub running_is : running m process ≡ Some place
   pub next : next_act m.store (holder_of m) (running_of m place) ≡ Some act
 
+-- the action is this wait for the holder of a file
+abbrev pub IsWaitFor : Act → Wait → Type 0
+IsWaitFor (acts.Busy file holder) wait = wait ≡ waits.Busy file holder
+IsWaitFor act wait = ⊥
+
 -- whether the action adds an entry
 abbrev pub adds_entry : Act → Bool
 adds_entry (acts.Busy file holder) = false
@@ -124,6 +131,10 @@ pub record HasBegun (x : Parts) (process : ℕ) : Type 0 where
   pub it : Process
   pub there : process_in x process ≡ Some it
   pub begun : IsSome it.call
+
+-- a completion of the process has come that was not polled
+abbrev pub HasCompletion : Parts → ℕ → Type 0
+HasCompletion x process = (y : Process) → process_in x process ≡ Some y → y.queue.completed ≢ []
 
 -- all processes but this one stay
 pub record OthersStay (old new : Parts) (process : ℕ) : Type 0 where

@@ -1,11 +1,11 @@
 //! The turns of device engines.
-ghost use Rattle.std.specs.Prelude.{◌≡◌, ◌<◌, ◌≤◌, ◌+◌, IfOk, IsSome, None, OnErr, Option, Some, length};
+ghost use Rattle.std.specs.Prelude.{◌≡◌, ◌<◌, ◌≤◌, ◌+◌, IfOk, IsSome, None, OnErr, Option, Some, length, true};
 ghost use Rattle.bd_base.specs.declared.key.Cell.{Cell};
 ghost use Rattle.bd_base.specs.declared.limits.TheConstants.{PROCESSES};
 ghost use Rattle.bd_machine.specs.declared.process.Hand.{Hand};
 ghost use Rattle.bd_machine.specs.declared.process.Phase.TheVariants.{Completing, Filling, Looking, Missing, Moving, Reading, Retiring};
 ghost use Rattle.bd_machine.specs.declared.process.Process.{Process};
-ghost use Rattle.bd_machine.specs.Engines.{Becomes, HasAnswer, HasCommand, IsFree, IsMissInHand, IsMoveInHand, IsMoveOf, IsThere, IsWorking, KeepsPass, MoveAt, StepsIfAny, TakesCommand, TakesStep, with_answer, without_command};
+ghost use Rattle.bd_machine.specs.Engines.{Becomes, HasAnswer, HasCommand, HasNoCommand, IsFree, IsMissInHand, IsMoveInHand, IsMoveOf, IsThere, IsWorking, KeepsPass, MoveAt, StepsIfAny, TakesCommand, TakesStep, with_answer, without_command};
 ghost use Rattle.bd_machine.specs.Logs.{HasRoom};
 ghost use Rattle.bd_machine.specs.Shows.{phase_of, request_of_command};
 ghost use Rattle.bd_machine.specs.Turns.{IsAt, Sight, StaysAt, TookTurn, process_in};
@@ -134,9 +134,33 @@ fn move_entry(
 }
 
 impl Parts {
-    /// One turn of a device engine.
-    #[tactic(auto, using(crate::proofs::EngineTurns::shows_log))]
+    /// One turn of a device engine. One that has nothing to do takes no memory.
     pub(crate) fn step_engine(&mut self, script: &Script, q: Pid) -> Result<Turn, OutOfMemory>
+        ghost m: { State }
+        requires state { IsAt script.now self.old m }
+        requires process { q < length script.now.processes }
+        ensures ok { IfOk result
+            (λ turn. TookTurn script.now self.old self.new m (length script.now.processes + q) turn) }
+        ensures err { OnErr result (StaysAt script.now self.old self.new m) }
+    {
+        if self.has_no_command(q) {
+            return Ok(Turn::Idle);
+        }
+        self.work(script, q)
+    }
+
+    /// Whether the engine has no command in hand, and none is submitted.
+    fn has_no_command(&self, q: Pid) -> bool
+        requires { q < length self.now.processes.items }
+        ensures { result ≡ true → HasNoCommand self.now q }
+    {
+        let it = &self.processes[q.get() as usize];
+        it.hand.is_none() && !it.queue.has_submitted()
+    }
+
+    /// One turn of a device engine, for which there is room in the log first.
+    #[tactic(auto, using(crate::proofs::EngineTurns::shows_log))]
+    fn work(&mut self, script: &Script, q: Pid) -> Result<Turn, OutOfMemory>
         ghost m: { State }
         requires state { IsAt script.now self.old m }
         requires process { q < length script.now.processes }
@@ -268,7 +292,8 @@ impl Parts {
     /// The oldest command is taken, and its engine enters its key; None where there is none.
     fn enter<L: Ledger>(&mut self, q: Pid, steps: &mut Steps<L>) -> Option<Row>
         ghost g: { Sight }
-        requires { IsFree g self.old q }
+        requires free { IsFree g self.old q }
+        requires room { HasRoom self.old.log }
         ensures { StepsIfAny g self.old self.new q result }
     {
         let Some(request) = self.take_command(q) else {

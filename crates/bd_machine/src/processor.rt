@@ -1,5 +1,5 @@
 //! The turns of processors.
-ghost use Rattle.std.specs.Prelude.{◌≡◌, ◌<◌, ◌≢◌, IfOk, IsSome, OnErr, OnOk, Some, true, length};
+ghost use Rattle.std.specs.Prelude.{◌≡◌, ◌<◌, ◌≢◌, IfOk, IfSome, IsSome, OnErr, OnOk, Some, true, length};
 ghost use Rattle.bd_base.specs.declared.limits.TheConstants.{DESCRIPTORS, FILE_BLOCKS};
 ghost use Rattle.bd_base.specs.Pieces.{Piece};
 ghost use Rattle.bd_base.specs.Scripts.{IsCall, IsWithinLimits};
@@ -7,11 +7,11 @@ ghost use Rattle.bd_entry.specs.declared.act.Act.TheVariants.{Poll, Submit as Su
 ghost use Rattle.bd_entry.specs.Calls.{Place, call_at, fd_of, piece_of_call};
 ghost use Rattle.bd_machine.specs.declared.process.Process.{Process};
 ghost use Rattle.bd_machine.specs.Shows.{IsCommandOf};
-ghost use Rattle.bd_machine.specs.Turns.{AreCellsFor, AttachesByOpen, CanChangeTables, HasBegun, IsAt, IsHeldAfter, IsNextAct, IsRunning, Sight, StaysAt, TableChange, TookTurn, adds_entry, process_in};
+ghost use Rattle.bd_machine.specs.Turns.{AreCellsFor, AttachesByOpen, CanChangeTables, HasBegun, HasCompletion, IsAt, IsHeldAfter, IsNextAct, IsRunning, IsWaitFor, Sight, StaysAt, TableChange, TookTurn, adds_entry, process_in};
 ghost use Rattle.bd_tables.specs.Plain.{tables_of};
 ghost use Rattle.bd_turns.specs.Processors.{row_of_entry};
 ghost use Rattle.bd_turns.specs.State.{State};
-ghost use Rattle.bd_turns.specs.Turns.{holds_after, holds_throughout, may_write, tables_after};
+ghost use Rattle.bd_turns.specs.Turns.{Waiting, holds_after, holds_throughout, may_write, outcome_of, tables_after};
 
 use crate::cells::cells_of_part;
 use crate::entries::entry_of_act;
@@ -42,6 +42,9 @@ impl Parts {
         if usize::from(self.processes[p.get() as usize].ended) == calls {
             return Ok(Turn::Idle);
         }
+        if let Some(wait) = self.wait_to_begin(script, p) {
+            return Ok(Turn::Waits(wait));
+        }
         self.begin(script, p)?;
         match self.next_act(p) {
             Act::Busy(file, holder) => Ok(Turn::Waits(Wait::Busy(file, holder))),
@@ -62,6 +65,25 @@ impl Parts {
         At {
             process: p,
             call: self.processes[p.get() as usize].ended,
+        }
+    }
+
+    /// What the running call waits for where it is not begun, if anything. Only then is memory taken for it.
+    fn wait_to_begin(&self, script: &Script, p: Pid) -> Option<Wait>
+        ghost m: { State }
+        requires state { IsAt script.now self.now m }
+        requires process { p < length script.now.processes }
+        requires running { IsRunning m p }
+        ensures { IfSome result (λ wait. outcome_of m p ≡ Waiting wait) }
+    {
+        if self.processes[p.get() as usize].call.is_some() {
+            return None;
+        }
+        let call = call_at(script, self.at(p));
+        let uid = script.processes.as_slice()[p.get() as usize].uid;
+        match KernelCall::first(self.disk.fs(), self.disk.descriptors(), call, p, uid) {
+            Some(act) => wait_for(&act),
+            None => None,
         }
     }
 
@@ -123,12 +145,28 @@ impl Parts {
         ensures ok { IfOk result (λ turn. TookTurn g.script self.old self.new g.state p turn) }
         ensures err { OnErr result (StaysAt g.script self.old self.new g.state) }
     {
+        let it = &self.processes[p.get() as usize];
+        if !it.queue.has_completed() {
+            let running = it.call.as_ref().unwrap();
+            return Ok(Turn::Waits(Wait::Completion(running.least_outstanding())));
+        }
+        self.take_completion(p)
+    }
+
+    /// The oldest completion, which has come, is taken.
+    fn take_completion(&mut self, p: Pid) -> Result<Turn, OutOfMemory>
+        ghost g: { Sight }
+        requires state { IsAt g.script self.old g.state }
+        requires begun { HasBegun self.old p }
+        requires act { IsNextAct g.state p Poll }
+        requires come { HasCompletion self.old p }
+        ensures ok { IfOk result (λ turn. TookTurn g.script self.old self.new g.state p turn) }
+        ensures err { OnErr result (StaysAt g.script self.old self.new g.state) }
+    {
         self.log.reserve()?;
         let it = &mut self.processes[p.get() as usize];
         let running = it.call.as_mut().unwrap();
-        if it.queue.poll().is_none() {
-            return Ok(Turn::Waits(Wait::Completion(running.least_outstanding())));
-        }
+        let _done = it.queue.poll().unwrap();
         running.polled();
         Ok(self.end_turn(p, processor(p), Row::Poll))
     }
@@ -232,6 +270,16 @@ impl Parts {
             }
             _ => {}
         }
+    }
+}
+
+/// The wait that an action is, if it is one for the holder of a file.
+fn wait_for(act: &Act) -> Option<Wait>
+    ensures { IfSome result (λ wait. IsWaitFor act.now wait) }
+{
+    match act {
+        Act::Busy(file, holder) => Some(Wait::Busy(*file, *holder)),
+        _ => None,
     }
 }
 

@@ -1,5 +1,5 @@
 //! A submission queue and a completion queue, of one process and its device engine.
-ghost use Rattle.std.specs.Prelude.{◌≡◌, ◌<◌, ◌≤◌, ◌↔◌, [], ◌∷◌, ◌++◌, IfOk, IsNone, IsSome, length, vec_len, vec_capacity};
+ghost use Rattle.std.specs.Prelude.{◌≡◌, ◌<◌, ◌≤◌, ◌↔◌, [], ◌∷◌, ◌++◌, false, IfOk, IsNone, IsSome, length, vec_len, vec_capacity};
 ghost use Rattle.std.specs.Option.{option_to_list};
 ghost use Rattle.bd_queue_pair.specs.declared.queue_pair.TheConstants.{DEPTH};
 ghost use Rattle.bd_queue_pair.specs.Queues.{no_commands, in_hand_of, others_in_hand, without_piece, outstanding, outstanding_of, AreApart};
@@ -96,6 +96,20 @@ impl QueuePair {
         ensures apart { AreApart self.new }
     {
         take_front(&mut self.completed)
+    }
+
+    /// Whether a command is submitted and not taken.
+    pub fn has_submitted(&self) -> bool
+        ensures { (result ≡ false) ↔ (self.now.submitted ≡ []) }
+    {
+        !self.submitted.is_empty()
+    }
+
+    /// Whether a completion has come that was not polled.
+    pub fn has_completed(&self) -> bool
+        ensures { (result ≡ false) ↔ (self.now.completed ≡ []) }
+    {
+        !self.completed.is_empty()
     }
 }
 

@@ -35,10 +35,12 @@ fn submitted(alloc: Global, first: Command, second: Command) -> Result<QueuePair
 fn keeps_their_order(rt: HostRuntime) -> Result<(), Fail> {
     let (first, second) = (command(4, 4096)?, command(1, 4097)?);
     let mut pair = submitted(rt.alloc(), first, second)?;
+    assert!(rt; pair.has_submitted() && !pair.has_completed());
     assert_eq!(rt; pair.poll(), None);
     assert_eq!(rt; pair.take(), Some(first));
     assert_eq!(rt; pair.take(), Some(second));
     assert_eq!(rt; pair.take(), None);
+    assert!(rt; !pair.has_submitted());
     let missed = Done {
         piece: 1,
         outcome: DoneKind::Missed(Found::Beyond(7)),
@@ -49,6 +51,7 @@ fn keeps_their_order(rt: HostRuntime) -> Result<(), Fail> {
     };
     pair.complete(missed);
     pair.complete(moved);
+    assert!(rt; pair.has_completed());
     assert_eq!(rt; pair.poll(), Some(missed));
     assert_eq!(rt; pair.poll(), Some(moved));
     assert_eq!(rt; pair.poll(), None);

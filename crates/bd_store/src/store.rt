@@ -191,7 +191,7 @@ fn idle_calls(alloc: Global, processes: usize) -> Result<Vec<RunningCall>, OutOf
 {
     let mut calls = Vec::with_capacity(alloc, processes)?;
     for _process in 0..processes {
-        calls.push(RunningCall::new(alloc)?)?;
+        calls.push(RunningCall::new())?;
     }
     Ok(calls)
 }

@@ -5,6 +5,8 @@ pub mod CallsAfterTurns
 pub mod Determined
 pub mod Acting
 pub mod BusyEngines
+pub mod BusyHolders
+pub mod BusyAnswers
 pub mod PostedRights
 pub mod NextActsThere
 pub mod OwnActsThere

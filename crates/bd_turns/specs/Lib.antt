@@ -11,4 +11,5 @@ pub mod Reached
 pub mod Laws
 pub mod CourseLaws
 pub mod Progress
+pub mod Waiting
 pub mod Names

@@ -7,7 +7,7 @@ use Rattle.bd_kernel.proofs.kernel_call.KernelCall.begin.Goals as goal
 pub returns-clause-entries : goal.returns-clause-entries
 returns-clause-entries c =
     record {
-      marks = c.in_ok-running.ensures;
+      marks = c.new.ensures;
       finished =
           sym (subst (λ (call : Call). is_ended_by call [] ≡ false) (sym c.in_ok-copy.ensures)
           (not_ended c.args.call.now c.requires));

@@ -1,9 +1,7 @@
 use Rattle.std.proofs.Common.{◌≡◌, ◌<◌, ℕ, get_or, length, ◌∙◌, ap, subst, sym}
-use Rattle.bd_base.specs.declared.script.Script.{Script}
 use Rattle.bd_machine.specs.Machine.{AreFinished, state_of}
 use Rattle.bd_machine.specs.Kept.{state_shown}
 use Rattle.bd_machine.specs.Whole.{Whole}
-use Rattle.bd_machine.specs.declared.process.Process.{Process}
 use Rattle.bd_machine.proofs.ShowingEnded.{ended_is}
 use Rattle.bd_turns.specs.State.{progress_of}
 use Rattle.bd_machine.proofs.machine.Machine.answered.Goals as goal

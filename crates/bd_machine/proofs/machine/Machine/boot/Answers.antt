@@ -1,4 +1,4 @@
-use Rattle.std.proofs.Common.{◌≡◌, sym}
+use Rattle.std.proofs.Common.{sym}
 use Rattle.bd_machine.specs.declared.parts.Parts.{Parts}
 use Rattle.bd_machine.proofs.ShowingMachine.{boot_at, kept_at, made_booted}
 use Rattle.bd_machine.proofs.ShowingStates.{is_shown}

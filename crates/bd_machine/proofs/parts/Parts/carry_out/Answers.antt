@@ -141,10 +141,6 @@ returns-in_err-change-clause-err g c =
     let r : Ready script x m process y mine act =
     ready_for script old m process c.get-2.result y mine act c.reserve.new.self c.requires.0 c.requires.1.0 c.requires.1.1.0 c.get-2.ensures.value
     c.index.ensures begun c.reserve.ensures.same.entries in
-    let p : Place = place script x m process y mine act r in
-    let called = call_of_script script x m process y mine act r c.at.result (c.at.ensures y r.here.there) in
-    let call : p.call ≡ c.call_at-call.result.now = same_Some p.call c.call_at-call.result.now (sym called.0 ∙ c.call_at-call.ensures) in
-    let at = (call_of_script script x m process y mine act r c.at-2.result (c.at-2.ensures y r.here.there)).1 in
     let failed = err_from_is_err_and c.from_residual-in_err-change.result c.from_residual-in_err-change.ensures.1 in
     let stays : StaysAt script old (record x { disk = c.change.new.self }) m =
     subst (λ (d : DiskState). StaysAt script old (record x { disk = d }) m) (sym c.in_err-change.ensures.err)
@@ -220,20 +216,6 @@ hold-requires-clause-process g c =
     let r : Ready script x m process y mine act =
     ready_for script old m process c.get-2.result y mine act c.reserve.new.self c.requires.0 c.requires.1.0 c.requires.1.1.0 c.get-2.ensures.value
     c.index.ensures begun c.reserve.ensures.same.entries in
-    let p : Place = place script x m process y mine act r in
-    let called = call_of_script script x m process y mine act r c.at.result (c.at.ensures y r.here.there) in
-    let call : p.call ≡ c.call_at-call.result.now = same_Some p.call c.call_at-call.result.now (sym called.0 ∙ c.call_at-call.ensures) in
-    let at = (call_of_script script x m process y mine act r c.at-2.result (c.at-2.ensures y r.here.there)).1 in
-    let e : Entry = c.in_ok-entry.entry in
-    let adds : AddsHere r.v m p act e =
-    adds_made script x m process y mine act r c.call_at-call.result.now c.at-2.result e c.requires.1.1.1 call at c.in_ok-entry.ensures in
-    let d : DiskState = c.change.new.self in
-    let it : ScriptProcess = c.index-as_slice-get.result in
-    let uid : ℕ = (get_or c.as_slice.result.now c.get.result it).uid in
-    let user = user_read script x m process c.get.result c.as_slice.result.now it r.here.shows
-    (in_script script old m process c.requires.0 c.requires.1.0) c.as_slice.ensures c.get.ensures.value c.index-as_slice-get.is
-    ∙ ap (λ (q : ScriptProcess). q.uid) c.index-as_slice-get.is in
-    let changed : IsDiskOf d (after_change m.store e) = changed_is script x m process y mine act r e adds d uid c.in_ok-change.ensures.effect user in
     let z : Parts = c.note.new.self in
     let t : Parts = c.change_tables.new.self in
     let same : t ≡ record z { tables = t.tables } = c.change_tables.ensures.same in
@@ -265,13 +247,6 @@ hold-requires-clause-free g c =
     let e : Entry = c.in_ok-entry.entry in
     let adds : AddsHere r.v m p act e =
     adds_made script x m process y mine act r c.call_at-call.result.now c.at-2.result e c.requires.1.1.1 call at c.in_ok-entry.ensures in
-    let d : DiskState = c.change.new.self in
-    let it : ScriptProcess = c.index-as_slice-get.result in
-    let uid : ℕ = (get_or c.as_slice.result.now c.get.result it).uid in
-    let user = user_read script x m process c.get.result c.as_slice.result.now it r.here.shows
-    (in_script script old m process c.requires.0 c.requires.1.0) c.as_slice.ensures c.get.ensures.value c.index-as_slice-get.is
-    ∙ ap (λ (q : ScriptProcess). q.uid) c.index-as_slice-get.is in
-    let changed : IsDiskOf d (after_change m.store e) = changed_is script x m process y mine act r e adds d uid c.in_ok-change.ensures.effect user in
     let z : Parts = c.note.new.self in
     let held : Option ℕ = c.file_to_hold-held.result in
     let held_is = hold_kept script x m process y mine act r c.call_at-call.result.now c.row_of-row.result (row_of_entry e) held call
@@ -318,8 +293,6 @@ end_turn-requires-clause-begun g c =
     c.row_of-row.ensures c.file_to_hold-held.ensures in
     let t : Parts = c.change_tables.new.self in
     let same : t ≡ record z { tables = t.tables } = c.change_tables.ensures.same in
-    let holds : t.disk.held ≡ x.disk.held =
-    ap (λ (w : Parts). w.disk.held) same ∙ c.note.ensures.held ∙ c.in_ok-change.ensures.held in
     let log : LogState = c.add.new.self in
     let told : t.log ≡ x.log = ap (λ (w : Parts). w.log) same ∙ c.note.ensures.log in
     let carried : Carried script x m process y mine act r e adds d z t.tables log held =
@@ -370,8 +343,6 @@ end_turn-requires-clause-holder g c =
     c.row_of-row.ensures c.file_to_hold-held.ensures in
     let t : Parts = c.change_tables.new.self in
     let same : t ≡ record z { tables = t.tables } = c.change_tables.ensures.same in
-    let holds : t.disk.held ≡ x.disk.held =
-    ap (λ (w : Parts). w.disk.held) same ∙ c.note.ensures.held ∙ c.in_ok-change.ensures.held in
     let log : LogState = c.add.new.self in
     let told : t.log ≡ x.log = ap (λ (w : Parts). w.log) same ∙ c.note.ensures.log in
     let carried : Carried script x m process y mine act r e adds d z t.tables log held =
@@ -428,8 +399,6 @@ end_turn-requires-clause-few g c =
     c.row_of-row.ensures c.file_to_hold-held.ensures in
     let t : Parts = c.change_tables.new.self in
     let same : t ≡ record z { tables = t.tables } = c.change_tables.ensures.same in
-    let holds : t.disk.held ≡ x.disk.held =
-    ap (λ (w : Parts). w.disk.held) same ∙ c.note.ensures.held ∙ c.in_ok-change.ensures.held in
     let log : LogState = c.add.new.self in
     let told : t.log ≡ x.log = ap (λ (w : Parts). w.log) same ∙ c.note.ensures.log in
     let carried : Carried script x m process y mine act r e adds d z t.tables log held =
@@ -480,8 +449,6 @@ returns-clause-ok g c =
     c.row_of-row.ensures c.file_to_hold-held.ensures in
     let t : Parts = c.change_tables.new.self in
     let same : t ≡ record z { tables = t.tables } = c.change_tables.ensures.same in
-    let holds : t.disk.held ≡ x.disk.held =
-    ap (λ (w : Parts). w.disk.held) same ∙ c.note.ensures.held ∙ c.in_ok-change.ensures.held in
     let log : LogState = c.add.new.self in
     let told : t.log ≡ x.log = ap (λ (w : Parts). w.log) same ∙ c.note.ensures.log in
     let carried : Carried script x m process y mine act r e adds d z t.tables log held =

@@ -1,7 +1,4 @@
 use Rattle.bd_machine.proofs.parts.Parts.step_engine.Given as goal
 
-abbrev pub ghost-engine_turn : goal.ghost-engine_turn
-ghost-engine_turn g a = g.m
-
-abbrev pub ghosts-engine_turn : goal.ghosts-engine_turn
-ghosts-engine_turn g a = record { name = a.blank.name; parts = 1 }
+abbrev pub ghost-work : goal.ghost-work
+ghost-work g a = g.m

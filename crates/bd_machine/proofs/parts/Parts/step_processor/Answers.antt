@@ -4,7 +4,7 @@ use Rattle.bd_base.specs.declared.script.Script.{Script}
 use Rattle.bd_entry.specs.declared.act.Act.TheVariants as acts
 use Rattle.bd_machine.specs.Turns.{AreBuilt, IsAt, IsNextAct}
 use Rattle.bd_machine.proofs.ProcessorBegins.{process_read, process_there}
-use Rattle.bd_machine.proofs.ProcessorFacts.{outcome_idle, took_idle}
+use Rattle.bd_machine.proofs.ProcessorFacts.{outcome_idle, took_idle, took_wait}
 use Rattle.bd_machine.proofs.ProcessorIdle.{none_runs, one_runs, process_of_script}
 use Rattle.bd_machine.proofs.ProcessorKinds.{built_at, revokes_nothing}
 use Rattle.bd_turns.specs.Processors.{running_of}
@@ -32,6 +32,25 @@ returns-then-from-calls-clause-ok g c =
     took_idle script x x m process is.shows
     (outcome_idle m process (omega (arith, count, c.requires.1)) (none_runs script x m process y it is there of all)) refl refl
 
+pub wait_to_begin-requires : goal.wait_to_begin-requires
+wait_to_begin-requires g c =
+    let x = c.args.self.now in
+    let script = c.args.script.now in
+    let m = g.m in
+    let process = c.args.p in
+    let is : IsAt script x m = c.requires.0 in
+    let it : ScriptProcess = c.index-as_slice-get.result in
+    let y = c.index.result.now in
+    let there = process_read x process c.get-2.result y c.get-2.ensures.value (process_there script x m process is.shows c.requires.1) c.index.ensures in
+    let of = process_of_script script process c.get.result c.as_slice.result.now it c.requires.1 c.as_slice.ensures c.get.ensures.value
+    c.index-as_slice-get.is in
+    let same : length (get_or c.as_slice.result.now c.get.result it).calls ≡ length it.calls =
+    ap (λ (q : ScriptProcess). length q.calls) (sym c.index-as_slice-get.is) in
+    let calls = c.len-calls.ensures in
+    let differ : y.ended ≢ length it.calls =
+    λ all. c.if-from-calls.false (omega (arith, same, calls, c.from.ensures, all)) in
+    (is, (c.requires.1, one_runs script x m process y it is there of differ))
+
 pub begin-requires : goal.begin-requires
 begin-requires g c =
     let x = c.args.self.now in
@@ -50,6 +69,11 @@ begin-requires g c =
     let differ : y.ended ≢ length it.calls =
     λ all. c.if-from-calls.false (omega (arith, same, calls, c.from.ensures, all)) in
     (is, (c.requires.1, one_runs script x m process y it is there of differ))
+
+pub returns-in-Some-clause-ok : goal.returns-in-Some-clause-ok
+returns-in-Some-clause-ok g c =
+    let x = c.args.self.now in
+    took_wait c.args.script.now x x g.m c.args.p c.in-Some.wait c.requires.0.shows (rw c.in-Some.is at c.wait_to_begin.ensures) refl refl
 
 pub unreachable-requires : goal.unreachable-requires
 unreachable-requires g c =

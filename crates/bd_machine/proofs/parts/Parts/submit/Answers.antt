@@ -190,7 +190,6 @@ end_turn-requires-clause-holder g c =
     let r : Ready script x m process y kept act =
     ready_for script old m process c.get.result y kept act c.reserve.new.self c.requires.0 c.requires.1.0 c.requires.1.1 c.get.ensures.value
     c.index_mut-it.ensures.value begun c.reserve.ensures.same.entries in
-    let p : Place = place script x m process y kept act r in
     let there = begun_there old process c.requires.1.0 in
     let shows = r.here.shows in
     omega (arith, there, shows.count, shows.holders)
