@@ -1,8 +1,65 @@
-//! The words of the command line, and the texts and codes of faults.
-use crate::{Command, Status, To, Which, code, fault_text, read_words};
-use std::alloc::Global;
+//! Whole commands from sources to sinks.
+mod checks;
+mod codes;
+mod faults;
+mod images;
+mod makes;
+mod readings;
+mod refusals;
+mod runs;
+mod traces;
+mod verdicts;
+mod worked;
+
+use crate::{Outcome, Status, top};
+use bd_base::List;
+use bd_outside::{MemSink, MemSource, NumberList, Sink, Source};
+use std::alloc::{AllocError, Global};
 use std::process::Abort;
 use std::test::Fail;
+
+/// The script of the first read, that of examples/first-read: `a` is opened for direct reads, and
+/// five bytes are read.
+const SCRIPT: &[u8] = b"bypassd-script 1\nproc 100\nopen a r direct\nread 0 0 5\n";
+
+/// The report of its run: 133 bytes.
+const REPORT: &[u8] = b"bypassd-report 1\nproc 0\n0 ok 0 mapped 1\n1 ok 5 68*1,65*1,6C*2,6F*1\n\
+    total direct 1 kernel 0 missed 0 detached 0\ncache hits 0 misses 1\n";
+
+/// These texts one after the other.
+fn joined(alloc: Global, texts: &[&[u8]]) -> Result<Vec<u8>, AllocError> {
+    let mut all = Vec::new(alloc);
+    for text in texts {
+        all.extend_from_slice(text)?;
+    }
+    Ok(all)
+}
+
+/// Writes these bytes, where they lie within the image.
+fn put(image: &mut [u8], place: usize, bytes: &[u8]) {
+    if place <= image.len() && bytes.len() <= image.len() - place {
+        image[place..place + bytes.len()].copy_from_slice(bytes);
+    }
+}
+
+/// Writes one byte, where it lies within the image.
+fn set(image: &mut [u8], place: usize, byte: u8) {
+    if place < image.len() {
+        image[place] = byte;
+    }
+}
+
+/// The image of the first read: 20 blocks with the file `a`, five bytes in block 3.
+fn first_image(alloc: Global) -> Result<Vec<u8>, AllocError> {
+    let mut image = vec![in alloc; 0u8; 81_920]?;
+    put(&mut image, 0, b"BYPDFS01\x01\0\0\0\x14\0\0\0\x10");
+    set(&mut image, 4096, 0x0F);
+    put(&mut image, 8192, b"\x01\x0F\x01\0\x64\0\0\0\x05");
+    put(&mut image, 8208, b"a");
+    put(&mut image, 8240, b"\x03\0\0\0\x01");
+    put(&mut image, 12_288, b"hello");
+    Ok(image)
+}
 
 /// Words of a command line.
 fn words(alloc: Global, texts: &[&str]) -> Result<Vec<String>, Fail> {
@@ -13,98 +70,174 @@ fn words(alloc: Global, texts: &[&str]) -> Result<Vec<String>, Fail> {
     Ok(words)
 }
 
-/// Lines of words that say no command.
-const NO_COMMAND: [&[&str]; 16] = [
-    &[],
-    &[""],
-    &["replay"],
-    &["replay", "image", "script"],
-    &["replay", "image", "script", "out", "more"],
-    &["replay", "", "script", "out"],
-    &["replay", "image", "-script", "out"],
-    &["replay", "image", "script", "--journal"],
-    &["replay", "--journal", "image", "script", "out", "--journal"],
-    &["--journal", "replay", "image", "script", "out"],
-    &["run", "image", "script", "out"],
-    &["verify", "image", "script", "journal", "--journal"],
-    &["check", "image", "--journal"],
-    &["check", "-"],
-    &["make", "07", "image", "script"],
-    &["make", "18446744073709551616", "image", "script"],
-];
-
-#[test]
-fn finds_no_command_in_other_words(rt: HostRuntime) -> Result<(), Fail> {
-    for line in NO_COMMAND {
-        let own = words(rt.alloc(), line)?;
-        assert!(&rt; read_words(own.as_slice()).is_none());
+/// The numbers of the calls that fail: this one, or none.
+fn fails_of(alloc: Global, call: Option<u64>) -> Result<NumberList, AllocError> {
+    let mut fails = Vec::new(alloc);
+    if let Some(number) = call {
+        fails.push(number)?;
     }
-    Ok(())
+    Ok(List::from_vec(fails))
 }
 
-#[test]
-fn reads_the_word_for_the_journal_at_each_place(rt: HostRuntime) -> Result<(), Fail> {
-    for line in [
-        ["replay", "--journal", "i", "s", "o"],
-        ["replay", "i", "--journal", "s", "o"],
-        ["replay", "i", "s", "--journal", "o"],
-        ["replay", "i", "s", "o", "--journal"],
-    ] {
-        let own = words(rt.alloc(), line.as_slice())?;
-        let want = Command::Replay {
-            image: "i",
-            script: "s",
-            out: "o",
-            journal: true,
-        };
-        assert!(&rt; read_words(own.as_slice()) == Some(want));
+/// A source of these bytes, at most so many a call, of which this call fails.
+fn source(
+    alloc: Global,
+    bytes: Vec<u8>,
+    most: usize,
+    call: Option<u64>,
+) -> Result<MemSource, Fail> {
+    if most == 0 {
+        return Err("a source that gives nothing".into());
     }
-    Ok(())
+    Ok(MemSource::new(List::from_vec(bytes), most, fails_of(alloc, call)?))
 }
 
-#[test]
-fn reads_words_that_say_a_command(rt: HostRuntime) -> Result<(), Fail> {
-    let replay = words(rt.alloc(), ["replay", "a b", "/x/../y", "o-"].as_slice())?;
-    let want = Command::Replay {
-        image: "a b",
-        script: "/x/../y",
-        out: "o-",
-        journal: false,
+/// A sink that takes at most so many bytes a call, of which this call fails.
+fn sink(alloc: Global, most: usize, call: Option<u64>) -> Result<MemSink, Fail> {
+    if most == 0 {
+        return Err("a sink that takes nothing".into());
+    }
+    Ok(MemSink::new(alloc, most, fails_of(alloc, call)?))
+}
+
+/// How many bytes a call of a source or a sink moves at most.
+#[derive(Clone, Copy)]
+struct Most {
+    image: usize,
+    text: usize,
+    out: usize,
+}
+
+/// What a call moves at most, but for the tests of that.
+const MOST: Most = Most {
+    image: 40_960,
+    text: 20,
+    out: 40,
+};
+
+/// The call of each source and sink that fails, if one does.
+#[derive(Clone, Copy)]
+struct Plan {
+    image: Option<u64>,
+    script: Option<u64>,
+    journal: Option<u64>,
+    out: Option<u64>,
+    disk: Option<u64>,
+}
+
+/// No call fails.
+const SURE: Plan = Plan {
+    image: None,
+    script: None,
+    journal: None,
+    out: None,
+    disk: None,
+};
+
+/// What a command leaves.
+#[derive(Drop)]
+struct Left {
+    outcome: Outcome,
+    out: MemSink,
+    disk: MemSink,
+}
+
+/// What a command is given to read.
+#[derive(Drop)]
+struct Inputs<'a> {
+    image: Vec<u8>,
+    script: &'a [u8],
+    journal: &'a [u8],
+}
+
+/// Runs the command of these words, and forgets what it promises.
+fn run<I: Source, S: Source, J: Source, O: Sink, D: Sink>(
+    alloc: Global,
+    words: &[String],
+    image: &mut I,
+    script: &mut S,
+    journal: &mut J,
+    out: &mut O,
+    disk: &mut D,
+) -> Outcome {
+    top(alloc, words, image, script, journal, out, disk)
+}
+
+/// Runs a command on all its inputs.
+fn command_on(alloc: Global, texts: &[&str], inputs: Inputs<'_>, plan: Plan) -> Result<Left, Fail> {
+    command_in_pieces(alloc, texts, inputs, MOST, plan)
+}
+
+/// Runs a command on all its inputs, in pieces of at most so many bytes.
+fn command_in_pieces(
+    alloc: Global,
+    texts: &[&str],
+    inputs: Inputs<'_>,
+    most: Most,
+    plan: Plan,
+) -> Result<Left, Fail> {
+    let words = words(alloc, texts)?;
+    let mut image = source(alloc, inputs.image, most.image, plan.image)?;
+    let mut script = source(alloc, inputs.script.to_vec(alloc)?, most.text, plan.script)?;
+    let mut journal = source(
+        alloc,
+        inputs.journal.to_vec(alloc)?,
+        most.text,
+        plan.journal,
+    )?;
+    let mut out = sink(alloc, most.out, plan.out)?;
+    let mut disk = sink(alloc, most.image, plan.disk)?;
+    let outcome = run(
+        alloc,
+        words.as_slice(),
+        &mut image,
+        &mut script,
+        &mut journal,
+        &mut out,
+        &mut disk,
+    );
+    Ok(Left { outcome, out, disk })
+}
+
+/// Runs a command that reads no journal.
+fn command(
+    alloc: Global,
+    texts: &[&str],
+    image: Vec<u8>,
+    script: &[u8],
+    plan: Plan,
+) -> Result<Left, Fail> {
+    let inputs = Inputs {
+        image,
+        script,
+        journal: b"",
     };
-    assert!(&rt; read_words(replay.as_slice()) == Some(want));
-    let verify = words(rt.alloc(), ["verify", "i", "verify", "j-"].as_slice())?;
-    let want = Command::Verify {
-        image: "i",
-        script: "verify",
-        journal: "j-",
-    };
-    assert!(&rt; read_words(verify.as_slice()) == Some(want));
-    let check = words(rt.alloc(), ["check", "check"].as_slice())?;
-    assert!(&rt; read_words(check.as_slice()) == Some(Command::Check { image: "check" }));
-    Ok(())
+    command_on(alloc, texts, inputs, plan)
 }
 
-/// Expects this code and this text of a status.
-fn has_text(
-    rt: &(impl Abort + AllocGlobal),
-    status: Status,
-    number: u8,
-    text: &str,
-) -> Result<(), Fail> {
-    assert_eq!(rt; code(&status), number);
-    assert!(rt; fault_text(rt.alloc(), &status)?.as_slice() == text.as_bytes());
-    Ok(())
+/// Replays a script over an image.
+fn replay_image(alloc: Global, image: Vec<u8>, script: &[u8], plan: Plan) -> Result<Left, Fail> {
+    let words = ["replay", "image", "script", "out"];
+    command(alloc, words.as_slice(), image, script, plan)
 }
 
-#[test]
-fn tells_each_fault(rt: HostRuntime) -> Result<(), Fail> {
-    let write = Status::WriteFault(To::Disk);
-    has_text(&rt, Status::Done, 0, "")?;
-    has_text(&rt, Status::Usage, 2, "bypassd: usage")?;
-    let read = Status::ReadFault(Which::Script);
-    has_text(&rt, read, 3, "bypassd: read fault: script")?;
-    has_text(&rt, write, 4, "bypassd: write fault: disk")?;
-    let script = Status::BadScript { line: 31, rule: 0 };
-    has_text(&rt, script, 6, "bypassd: bad script: rule 0 at line 31")?;
-    has_text(&rt, Status::OutOfMemory, 7, "bypassd: out of memory")
+/// Checks an image.
+fn check_image(alloc: Global, image: Vec<u8>, plan: Plan) -> Result<Left, Fail> {
+    command(alloc, ["check", "image"].as_slice(), image, SCRIPT, plan)
+}
+
+/// Expects that a command was refused so: there was no run, and nothing was written.
+fn is_refused(rt: &impl Abort, left: &Left, want: Status) {
+    assert_eq!(rt; left.outcome.status, want);
+    assert!(rt; left.outcome.journal.is_empty() && left.outcome.trace.is_empty());
+    assert!(rt; left.out.held().is_empty() && left.disk.held().is_empty());
+}
+
+/// Expects that a replay of the first read ended so, with these first bytes of the report and of
+/// the image written.
+fn has_run(rt: &impl Abort, left: &Left, want: Status, report: &[u8], image: &[u8]) {
+    assert_eq!(rt; left.outcome.status, want);
+    assert!(rt; left.outcome.journal.len() == 4 && left.outcome.trace.len() == 12);
+    assert!(rt; left.out.held() == report);
+    assert!(rt; left.disk.held() == image);
 }
