@@ -14,3 +14,4 @@ pub mod CallEnds
 pub mod CallsWithoutEntries
 pub mod DiskBytes
 pub mod DiskEntries
+pub mod DecidedMisses

@@ -1,14 +1,16 @@
 -- What a running call keeps of its entries and of its commands.
-use Rattle.std.specs.Prelude.{◌≡◌, ℕ, ◌<◌, ◌≤◌, Bool, true, false, ◌&&◌, nat_eq, Option, None, Some, List, [], ◌∷◌, ◌++◌, length}
+use Rattle.std.specs.Prelude.{◌≡◌, ◌↔◌, ℕ, ◌<◌, ◌≤◌, Bool, true, false, ◌&&◌, nat_eq, Option, None, Some, List, [], ◌∷◌, ◌++◌, length}
 use Rattle.std.specs.List.{list_any}
+use Rattle.bd_base.specs.declared.journal.Found.{Found}
 use Rattle.bd_base.specs.declared.limits.TheConstants.{PIECES}
 use Rattle.bd_base.specs.declared.script.Call.{Call}
 use Rattle.bd_base.specs.Scripts.{IsCall}
 use Rattle.bd_entry.specs.declared.act.Act.{Act}
 use Rattle.bd_entry.specs.declared.entry.Entry.{Entry}
 use Rattle.bd_entry.specs.Actions.{Running, is_for_device, is_untouched, next_act}
-use Rattle.bd_entry.specs.Calls.{has_missed, is_answered, is_ended_by}
-use Rattle.bd_entry.specs.Refusals.{file_of}
+use Rattle.bd_entry.specs.Calls.{does_write, has_missed, is_answered, is_ended_by}
+use Rattle.bd_entry.specs.Refusals.{descriptor_of, file_of}
+use Rattle.bd_entry.specs.RulesOfRights.{MayMiss, ThePiece}
 use Rattle.bd_entry.specs.Store.{Store, user_of}
 use Rattle.bd_fs.specs.Files.{Files}
 use Rattle.bd_kernel.specs.Changes.{Rows}
@@ -74,6 +76,15 @@ IsFileOf fs table c answer =
     InStore fs table.rows
     (λ s. (number : ℕ) (before : List Entry) → AreEntriesOf c before →
     answer ≡ file_of s (place_of c.call c.process number before))
+
+-- whether the walk of the piece may have found this, in each store of these files and descriptors, whatever the call's
+-- entries so far may be
+abbrev pub MayMissAt : Files → Table → Progress → ℕ → Found → Bool → Type 0
+MayMissAt fs table c piece found answer =
+    InStore fs table.rows
+    (λ s. (number : ℕ) (before : List Entry) → AreEntriesOf c before →
+    let p = place_of c.call c.process number before in
+    (answer ≡ true) ↔ ThePiece p piece (MayMiss s (does_write c.call) (descriptor_of s p) found))
 
 -- the call is within its limits, and its commands are of its pieces
 pub record IsProgress (c : Progress) : Type 0 where

@@ -11,19 +11,20 @@ ghost use Rattle.bd_kernel.specs.Holders.{holder_in};
 ghost use Rattle.bd_kernel.specs.Marks.{AreMarksOf, HasPieceOf};
 ghost use Rattle.bd_kernel.specs.Sights.{AtPlace, place_of};
 ghost use Rattle.bd_entry.specs.Calls.{Place, fd_of_call};
-ghost use Rattle.bd_kernel.specs.Turns.{ArePieceMarksOf, AreEntriesOf, IsFileOf, IsFirstAct, IsNextAct, IsNextActOf, IsSameCall, Takes};
+ghost use Rattle.bd_kernel.specs.Turns.{ArePieceMarksOf, AreEntriesOf, IsFileOf, IsFirstAct, IsNextAct, IsNextActOf, IsSameCall, MayMissAt, Takes};
 
 use crate::beginning::before_beginning;
 use crate::calls::fd_of_call;
 use crate::descriptors::Descriptors;
 use crate::files::{attach_by, open_directly, open_file, tell_size, truncate, unlink};
+use crate::misses::may_miss;
 use crate::outstanding::Outstanding;
 use crate::pieces::{kernel_part, submit_or_poll};
 use crate::place::file_of;
 use crate::refusals::first_refusal;
 use crate::revocation::{keys_to_revoke, revoke};
 use crate::running_call::RunningCall;
-use bd_base::{Call, FileId, How, OutOfMemory, Pid};
+use bd_base::{Call, FileId, Found, How, OutOfMemory, Pid};
 use bd_entry::{Act, Entry};
 use bd_fs::Fs;
 use std::alloc::Global;
@@ -366,6 +367,21 @@ impl KernelCall {
             &self.call,
             self.process,
             &self.running,
+        )
+    }
+
+    /// Whether the walk of this piece may have found this: the entry that notes it would keep the rule of rights.
+    pub fn may_miss(&self, fs: &Fs, descriptors: &Descriptors, piece: u8, found: Found) -> bool
+        ensures { MayMissAt fs.now descriptors.now self.now piece found result }
+    {
+        may_miss(
+            fs,
+            descriptors.table(),
+            &self.call,
+            self.process,
+            &self.running,
+            piece,
+            found,
         )
     }
 

@@ -10,6 +10,7 @@ mod ends;
 mod files;
 mod kernel_call;
 mod marks;
+mod misses;
 mod outstanding;
 mod part_set;
 mod pieces;
@@ -29,6 +30,7 @@ pub use descriptors::Descriptors;
 pub use disk::{Disk, sound_entries_can_change};
 pub use ends::{is_end_of, is_of_piece, is_whole_refusal, tells_size};
 pub use kernel_call::KernelCall;
+pub use misses::{limit_of, may_miss, stands};
 pub use part_set::PartSet;
 pub use place::{
     block_count, descriptor_of, file_of, goal_of, is_direct, kernel_number, kernel_piece,

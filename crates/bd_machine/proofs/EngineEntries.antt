@@ -36,6 +36,7 @@ file_block s file index block valid at_index = by (file_in s file) refl
         let all : length s.bytes ≡ BLOCK_SIZE * s.total = valid.volume.all_bytes in
         omega (arith, below, all)
 
+-- so the disk has the block of such an access
 pub block_there : (disk : DiskState) (call : Call) (at : At) (command : Command) (block : ℕ) (g : MoveAt) → IsMoveOf disk call at command block g →
     HasBlock disk.bytes block
 block_there disk call at command block g is =

@@ -23,15 +23,16 @@ use Rattle.bd_turns.specs.Sound.{Sound}
 use Rattle.bd_turns.specs.State.{Progress, State, outstanding, progress_of, running}
 use Rattle.bd_turns.specs.Turns.{turns_per_call}
 use Rattle.bd_turns.proofs.RunningPlaces.{runs_at}
+use Rattle.bd_tables.specs.declared.sides.Tables as sides
 
 -- the running call of a process with commands, and what is kept of it
-pub record Working (g : Sight) (x : Parts) (q : ℕ) (it : Process) : Type 0 where
+pub record Working {T M P : Type 0} (K : sides.Ghosts T P) (g : Sight) (x : Parts T M P) (q : ℕ) (it : Process P) : Type 0 where
   pub place : Place
   pub running_is : running g.state q ≡ Some place
   pub process_is : place.at.process ≡ q
   pub at_is : place.at ≡ record { process = q; call = it.ended }
   pub there : q < length g.script.processes
-  pub is_shown : IsProcessAt g.state (slice_index_or x.disk.held q None) x.tables q it
+  pub is_shown : IsProcessAt K g.state (slice_index_or x.disk.held q None) x.tables q it
   pub within : IsCall place.call
   pub call : kernel.Progress
   pub call_is : it.call ≡ Some call
@@ -63,11 +64,13 @@ begun_call : (m : State) (p : Place) (o : Option kernel.Progress) → IsCallAt m
 begun_call m p None is some = absurd (some is.outstanding)
 begun_call m p (Some c) is some = (c, refl, is)
 
-pub working : (g : Sight) (x : Parts) (q : ℕ) (it : Process) → IsAt g.script x g.state → process_in x q ≡ Some it →
-    outstanding (progress_of g.state q) ≢ [] → Working g x q it
-working g x q it at there some = by (running g.state q) refl
+-- a process with commands outstanding has a running call that was begun
+pub working : {T M P : Type 0} {K : sides.Ghosts T P} (g : Sight) (x : Parts T M P) (q : ℕ) (it : Process P) → IsAt K g.script x g.state →
+    process_in x q ≡ Some it →
+    outstanding (progress_of g.state q) ≢ [] → Working K g x q it
+working {T} {M} {P} {K} g x q it at there some = by (running g.state q) refl
   where
-    by : (o : Option Place) → running g.state q ≡ o → Working g x q it
+    by : (o : Option Place) → running g.state q ≡ o → Working K g x q it
     by None none = absurd (some (at.reached.1.sound.calls.commands.none q none))
     by (Some p) is =
         let m : State = g.state in
@@ -100,9 +103,9 @@ working g x q it at there some = by (running g.state q) refl
           call_is = kept.1;
           kept = kept.2;
           few = record {
-            calls = λ y is_y. subst (λ (z : Process). z.ended < CALLS) (same_Some it y (sym there ∙ is_y)) (omega (arith, number_is, below, most, ended));
+            calls = λ y is_y. subst (λ (z : Process P). z.ended < CALLS) (same_Some it y (sym there ∙ is_y)) (omega (arith, number_is, below, most, ended));
             turns = λ y is_y.
-                subst (λ (z : Process). z.used < turns_per_call) (same_Some it y (sym there ∙ is_y)) (omega (arith, used, few_turns));
+                subst (λ (z : Process P). z.used < turns_per_call) (same_Some it y (sym there ∙ is_y)) (omega (arith, used, few_turns));
           };
           later =
               subst (λ (n : ℕ). entries_of (record { process = n; call = p.at.call + 1 }) m.journal ≡ []) (sym process_is)

@@ -17,35 +17,32 @@ use Rattle.bd_kernel.specs.Disks.{DiskState, IsDiskOf}
 use Rattle.bd_kernel.specs.Marks.{HasPieceOf}
 use Rattle.bd_machine.specs.declared.parts.Parts.{Parts}
 use Rattle.bd_machine.specs.declared.process.Hand.{Hand}
-use Rattle.bd_machine.specs.declared.process.Phase.{Phase}
-use Rattle.bd_machine.specs.declared.process.Phase.TheVariants as phases
 use Rattle.bd_machine.specs.declared.process.Process.{Process}
-use Rattle.bd_machine.specs.Engines.{Becomes, HasCommand, IsMissInHand, IsWorking, TakesStep, with_answer}
+use Rattle.bd_machine.specs.Engines.{Becomes, HasCommand, IsInPhase, IsMissInHand, TakesStep, with_answer}
 use Rattle.bd_machine.specs.Logs.{AppendsEntry, LogState}
 use Rattle.bd_machine.specs.Shows.{in_hand_of}
 use Rattle.bd_machine.specs.Turns.{HasBegun, NotesEntry, Sight, process_in}
 use Rattle.bd_machine.proofs.EngineFacts.{Working}
-use Rattle.bd_machine.proofs.EngineLooks.{IsPass, kept_pass}
 use Rattle.bd_machine.proofs.EngineNotes.{Noted, noted_call, notes_on}
-use Rattle.bd_machine.proofs.EnginePasses.{lent_walk}
-use Rattle.bd_machine.proofs.EngineWalks.{facts, goes, hand_is, in_hand, running_there, walk_for}
+use Rattle.bd_machine.proofs.EngineWalks.{facts, goes, hand_is, running_there, walk_for}
 use Rattle.bd_queue_pair.specs.declared.command.DoneKind.TheVariants as kinds
-use Rattle.bd_tables.specs.declared.plain.PlainPass.{PlainPass}
-use Rattle.bd_tables.specs.State.{TableState, found_of, walk_at}
+use Rattle.bd_tables.specs.State.{found_of, walk_at}
 use Rattle.bd_turns.specs.declared.turn.Row.TheVariants as rows
 use Rattle.bd_turns.specs.Engines.{engine_step, miss, notes}
-use Rattle.bd_turns.specs.State.{InHand, State, progress_of, running}
+use Rattle.bd_turns.specs.State.{InHand, Missing, Phase, State, progress_of, running}
 use Rattle.bd_turns.proofs.RunningPlaces.{runs_at}
+use Rattle.bd_tables.specs.declared.sides.Tables as sides
 
 -- ---- what is asked of the code
 
 -- the running call of a working engine was begun
-pub has_begun : (g : Sight) (x : Parts) (q : ℕ) (phase : Phase) (w : IsWorking g x q phase) → HasBegun x q
+pub has_begun : {T M P : Type 0} {K : sides.Ghosts T P} (g : Sight) (x : Parts T M P) (q : ℕ) (phase : Phase) (w : IsInPhase K g x q phase) → HasBegun x q
 has_begun g x q phase w =
     record { it = w.it; there = w.there; begun = subst IsSome (sym (facts g x q phase w).call_is) refl }
 
 -- the command is in hand still after an entry was noted
-pub command_noted : (g : Sight) (x : Parts) (q : ℕ) (phase : Phase) (w : IsWorking g x q phase) (n : Parts) (changed : DiskState)
+pub command_noted : {T M P : Type 0} {K : sides.Ghosts T P} (g : Sight) (x : Parts T M P) (q : ℕ) (phase : Phase) (w : IsInPhase K g x q phase)
+    (n : Parts T M P) (changed : DiskState)
     (l : LogState) (e : Entry) → NotesEntry (record x { disk = changed }) n q e → HasCommand (record n { log = l }) q
 command_noted g x q phase w n changed l e noted =
     let known = facts g x q phase w in
@@ -53,32 +50,34 @@ command_noted g x q phase w n changed l e noted =
     record { it = record w.it { call = Some mine.0 }; there = mine.1; some = subst IsSome (sym w.in_hand) refl }
 
 -- its command is of a piece that a call may have
-pub piece_fits : (g : Sight) (x : Parts) (q : ℕ) (phase : Phase) (w : IsWorking g x q phase) → w.hand.command.piece < PIECES
+pub piece_fits : {T M P : Type 0} {K : sides.Ghosts T P} (g : Sight) (x : Parts T M P) (q : ℕ) (phase : Phase) (w : IsInPhase K g x q phase) →
+    w.hand.command.piece < PIECES
 piece_fits g x q phase w =
     let known = facts g x q phase w in
     let is = (hand_is g x q phase w).command in
     (piece_of_call-is known.place.call w.hand.command.piece is.piece known.within is.piece_is).number_is
 
 -- the place and the hand are those of the state
-pub same_hand : (g : Sight) (x : Parts) (q : ℕ) (phase : Phase) (w : IsWorking g x q phase) (hand : InHand) →
-    (progress_of g.state q).hand ≡ Some hand → hand ≡ in_hand_of phase w.hand
-same_hand g x q phase w hand is = same_Some hand (in_hand_of phase w.hand) (sym is ∙ in_hand g x q phase w)
+pub same_hand : {T M P : Type 0} {K : sides.Ghosts T P} (g : Sight) (x : Parts T M P) (q : ℕ) (phase : Phase) (w : IsInPhase K g x q phase) (hand : InHand) →
+    (progress_of g.state q).hand ≡ Some hand → hand ≡ in_hand_of w.hand phase
+same_hand g x q phase w hand is = same_Some hand (in_hand_of w.hand phase) (sym is ∙ w.entered)
 
-pub same_place : (g : Sight) (x : Parts) (q : ℕ) (phase : Phase) (w : IsWorking g x q phase) (place : Place) →
+-- and the place is that of the running call
+pub same_place : {T M P : Type 0} {K : sides.Ghosts T P} (g : Sight) (x : Parts T M P) (q : ℕ) (phase : Phase) (w : IsInPhase K g x q phase) (place : Place) →
     running g.state q ≡ Some place → place ≡ (facts g x q phase w).place
 same_place g x q phase w place is = same_Some place (facts g x q phase w).place (sym is ∙ (facts g x q phase w).running_is)
 
 -- the script has that call
-pub call_there : (g : Sight) (x : Parts) (q : ℕ) (phase : Phase) (w : IsWorking g x q phase) → (at : At) →
+pub call_there : {T M P : Type 0} {K : sides.Ghosts T P} (g : Sight) (x : Parts T M P) (q : ℕ) (phase : Phase) (w : IsInPhase K g x q phase) → (at : At) →
     at ≡ record { process = q; call = w.it.ended } → call_at g.script at ≡ Some (facts g x q phase w).place.call
 call_there g x q phase w at is =
     let known = facts g x q phase w in
     let runs = runs_at g.state known.place.at.process known.place (running_there g x q phase w) in
     ap (λ (script : Script). call_at script at) (sym w.at.shows.script_is) ∙ ap (call_at g.state.script) (is ∙ sym known.at_is) ∙ runs.called
 
-module _ (g : Sight) (x : Parts) (q : ℕ) (w : IsWorking g x q phases.Missing) where
-  abbrev known : Working g x q w.it
-  known = facts g x q phases.Missing w
+module _ {T M P : Type 0} {K : sides.Ghosts T P} (g : Sight) (x : Parts T M P) (q : ℕ) (w : IsInPhase K g x q Missing) where
+  abbrev known : Working K g x q w.it
+  known = facts g x q Missing w
 
   abbrev m : State
   m = g.state
@@ -86,28 +85,20 @@ module _ (g : Sight) (x : Parts) (q : ℕ) (w : IsWorking g x q phases.Missing) 
   -- the walk was refused
   pub found_there : (found : Found) × (found_of (walk_at m.tables.walks q) ≡ Some found)
   found_there =
-      let walk = (walk_for g x q phases.Missing w).walk in
+      let walk = (walk_for g x q Missing w).walk in
       (walk.0, ap found_of (ap (λ (n : ℕ). walk_at m.tables.walks n) (sym known.process_is) ∙ walk.1))
 
-  pub pass_found : (pass : PlainPass) → w.it.pass ≡ Some pass → found_of pass.walk ≡ found_of (walk_at m.tables.walks q)
-  pass_found pass is =
-      let kept = kept_pass g x q phases.Missing w refl in
-      let same : kept.0 ≡ pass = same_Some kept.0 pass (sym kept.1 ∙ is) in
-      let here : IsPass x q pass = subst (IsPass x q) same kept.2 in
-      ap found_of
-      (sym (ap (λ (t : TableState). walk_at t.walks q) w.at.shows.tables ∙ lent_walk x.tables q pass here.process_is here.lent))
-
-  pub misses : (found : Found) (entry : Entry) (at : At) (piece : ℕ) (pass : PlainPass) → w.it.pass ≡ Some pass →
-      found_of pass.walk ≡ Some found → at ≡ record { process = q; call = w.it.ended } → piece ≡ w.hand.command.piece →
-      entry ≡ entries.Missed at piece found → IsMissInHand m q found entry
-  misses found entry at piece pass pass_is found_is at_is piece_is entry_is =
+  pub misses : (found : Found) (entry : Entry) (at : At) (piece : ℕ) → found_of (walk_at m.tables.walks q) ≡ Some found →
+      at ≡ record { process = q; call = w.it.ended } → piece ≡ w.hand.command.piece → entry ≡ entries.Missed at piece found →
+      IsMissInHand m q found entry
+  misses found entry at piece found_is at_is piece_is entry_is =
       record {
         place = known.place;
         running_is = known.running_is;
-        hand = in_hand_of phases.Missing w.hand;
-        in_hand = in_hand g x q phases.Missing w;
+        hand = in_hand_of w.hand Missing;
+        in_hand = w.entered;
         phase_is = refl;
-        found_is = sym (pass_found pass pass_is) ∙ found_is;
+        found_is = found_is;
         entry_is =
             entry_is ∙ ap (λ (a : At). entries.Missed a piece found) (at_is ∙ sym known.at_is)
             ∙ ap (λ (n : ℕ). entries.Missed known.place.at n found) piece_is;
@@ -117,16 +108,16 @@ module _ (g : Sight) (x : Parts) (q : ℕ) (w : IsWorking g x q phases.Missing) 
     -- the entry is the one of the step
     pub entry_same : entry ≡ entries.Missed known.place.at w.hand.command.piece found
     entry_same =
-        is.entry_is ∙ ap (λ (p : Place). entries.Missed p.at is.hand.piece found) (same_place g x q phases.Missing w is.place is.running_is)
-        ∙ ap (λ (h : InHand). entries.Missed known.place.at h.piece found) (same_hand g x q phases.Missing w is.hand is.in_hand)
+        is.entry_is ∙ ap (λ (p : Place). entries.Missed p.at is.hand.piece found) (same_place g x q Missing w is.place is.running_is)
+        ∙ ap (λ (h : InHand). entries.Missed known.place.at h.piece found) (same_hand g x q Missing w is.hand is.in_hand)
 
     pub miss_piece : HasPieceOf entry
-    miss_piece = subst HasPieceOf (sym entry_same) (piece_fits g x q phases.Missing w)
+    miss_piece = subst HasPieceOf (sym entry_same) (piece_fits g x q Missing w)
 
     stepping : engine_step m known.place
         ≡ Some (notes rows.Missed m.tables (progress_of m known.place.at.process) w.hand.command.piece entry)
     stepping =
-        goes g x q phases.Missing w
+        goes g x q Missing w
         ∙ ap (option_map (miss m.tables known.place (progress_of m known.place.at.process) w.hand.command.piece))
         (ap (λ (n : ℕ). found_of (walk_at m.tables.walks n)) known.process_is ∙ is.found_is)
         ∙ ap (λ (e : Entry). Some (notes rows.Missed m.tables (progress_of m known.place.at.process) w.hand.command.piece e)) (sym entry_same)
@@ -135,9 +126,9 @@ module _ (g : Sight) (x : Parts) (q : ℕ) (w : IsWorking g x q phases.Missing) 
     miss_of_piece =
         sym (ap (is_miss_of w.hand.command.piece) entry_same ∙ eq-eqb w.hand.command.piece w.hand.command.piece refl)
 
-    pub misses_on : (n z : Parts) (l : LogState) → NotesEntry x n q entry → AppendsEntry n.log entry l →
-        ((y : Process) (hand : Hand) → process_in n q ≡ Some y → y.hand ≡ Some hand →
-        Becomes (record n { log = l }) z q n.tables (with_answer y hand (kinds.Missed found))) → TakesStep g x z q rows.Missed
+    pub misses_on : (n z : Parts T M P) (l : LogState) → NotesEntry x n q entry → AppendsEntry n.log entry l →
+        ((y : Process P) (hand : Hand) → process_in n q ≡ Some y → y.hand ≡ Some hand →
+        Becomes (record n { log = l }) z q n.tables (with_answer y hand (kinds.Missed found))) → TakesStep K g x z q rows.Missed
     misses_on n z l noted log answered =
         let s : Noted x q m entry x.disk n l = record {
           changed_is = subst (λ (e : Entry). IsDiskOf x.disk (after_change m.store e)) (sym entry_same) w.at.shows.disk;
@@ -145,6 +136,6 @@ module _ (g : Sight) (x : Parts) (q : ℕ) (w : IsWorking g x q phases.Missing) 
           noted = noted;
           log = log;
         } in
-        let call = noted_call g x q phases.Missing w refl refl rows.Missed entry stepping x.disk n l s in
-        notes_on g x q phases.Missing w refl refl rows.Missed entry stepping x.disk n l s z (kinds.Missed found) miss_of_piece
+        let call = noted_call g x q Missing w refl refl rows.Missed entry stepping x.disk n l s in
+        notes_on g x q Missing w refl refl rows.Missed entry stepping x.disk n l s z (kinds.Missed found) miss_of_piece
         (answered (record w.it { call = Some call.0 }) w.hand call.1 w.in_hand)

@@ -24,36 +24,33 @@ use Rattle.bd_kernel.specs.Marks.{HasPieceOf}
 use Rattle.bd_kernel.proofs.DiskEntries.{can_change, has_piece, legal_is_sound}
 use Rattle.bd_machine.specs.declared.parts.Parts.{Parts}
 use Rattle.bd_machine.specs.declared.process.Hand.{Hand}
-use Rattle.bd_machine.specs.declared.process.Phase.TheVariants as phases
 use Rattle.bd_machine.specs.declared.process.Process.{Process}
-use Rattle.bd_machine.specs.Engines.{Becomes, IsMoveInHand, IsMoveOf, IsWorking, MoveAt, TakesStep, with_answer}
+use Rattle.bd_machine.specs.Engines.{Becomes, IsMoveInHand, IsInPhase, IsMoveOf, MoveAt, TakesStep, with_answer}
 use Rattle.bd_machine.specs.Logs.{AppendsEntry, LogState}
 use Rattle.bd_machine.specs.Shows.{IsCommandOf, in_hand_of}
 use Rattle.bd_machine.specs.Turns.{NotesEntry, Sight, process_in}
 use Rattle.bd_machine.proofs.EngineFacts.{Working}
-use Rattle.bd_machine.proofs.EngineLooks.{IsPass, kept_pass}
 use Rattle.bd_machine.proofs.EngineMisses.{same_hand, same_place}
 use Rattle.bd_machine.proofs.EngineNotes.{Noted, noted_call, notes_on}
-use Rattle.bd_machine.proofs.EnginePasses.{lent_walk}
-use Rattle.bd_machine.proofs.EngineWalks.{facts, goes, hand_is, in_hand, running_there, walk_for}
+use Rattle.bd_machine.proofs.EngineWalks.{facts, goes, hand_is, running_there, walk_for}
 use Rattle.bd_queue_pair.specs.declared.command.Command.{Command}
 use Rattle.bd_queue_pair.specs.declared.command.DoneKind.TheVariants as kinds
-use Rattle.bd_tables.specs.declared.plain.PlainPass.{PlainPass}
 use Rattle.bd_tables.specs.declared.request.Completion.{Completion}
 use Rattle.bd_tables.specs.declared.request.Request.{Request}
 use Rattle.bd_tables.specs.declared.state.Walk.TheVariants.{Translated}
-use Rattle.bd_tables.specs.State.{TableState, told_of, walk_at}
+use Rattle.bd_tables.specs.State.{told_of, walk_at}
 use Rattle.bd_turns.specs.Added.{IsAdded, by_engine}
 use Rattle.bd_turns.specs.declared.turn.Row.TheVariants as rows
 use Rattle.bd_turns.specs.Engines.{engine_step, move, move_entry, move_entry_of, notes}
 use Rattle.bd_turns.specs.Processors.{running_of}
 use Rattle.bd_turns.specs.Reached.{IsReached}
-use Rattle.bd_turns.specs.State.{InHand, State, progress_of}
+use Rattle.bd_turns.specs.State.{InHand, Moving, State, progress_of}
 use Rattle.bd_turns.proofs.LegalMoves.{moves_by}
 use Rattle.bd_turns.proofs.LegalTurns.{turns_add_legally}
 use Rattle.bd_turns.proofs.RunningPlaces.{ready, runs_at}
 use Rattle.bd_turns.proofs.TablesOfSteps.{is_request}
 use Rattle.bd_turns.proofs.Translations.{translated}
+use Rattle.bd_tables.specs.declared.sides.Tables as sides
 
 -- ---- entries that turns add
 
@@ -94,9 +91,9 @@ move_at m call at c block =
       entry = unwrap_or (move_entry_of m.store place c.piece block) (entries.Closed at 0);
     }
 
-module _ (g : Sight) (x : Parts) (q : ℕ) (w : IsWorking g x q phases.Moving) where
-  abbrev known : Working g x q w.it
-  known = facts g x q phases.Moving w
+module _ {T M P : Type 0} {K : sides.Ghosts T P} (g : Sight) (x : Parts T M P) (q : ℕ) (w : IsInPhase K g x q Moving) where
+  abbrev known : Working K g x q w.it
+  known = facts g x q Moving w
 
   abbrev m : State
   m = g.state
@@ -110,22 +107,14 @@ module _ (g : Sight) (x : Parts) (q : ℕ) (w : IsWorking g x q phases.Moving) w
   -- the engine holds a translation
   pub told_there : (completion : Completion) × (told_of (walk_at m.tables.walks q) ≡ Some completion)
   told_there =
-      let walk = (walk_for g x q phases.Moving w).walk in
+      let walk = (walk_for g x q Moving w).walk in
       (walk.0, ap told_of (ap (λ (n : ℕ). walk_at m.tables.walks n) (sym known.process_is) ∙ walk.1))
-
-  pub pass_told : (pass : PlainPass) → w.it.pass ≡ Some pass → told_of pass.walk ≡ told_of (walk_at m.tables.walks q)
-  pass_told pass is =
-      let kept = kept_pass g x q phases.Moving w refl in
-      let same : kept.0 ≡ pass = same_Some kept.0 pass (sym kept.1 ∙ is) in
-      let here : IsPass x q pass = subst (IsPass x q) same kept.2 in
-      ap told_of
-      (sym (ap (λ (t : TableState). walk_at t.walks q) w.at.shows.tables ∙ lent_walk x.tables q pass here.process_is here.lent))
 
   -- there is such an entry
   pub entry_there : (completion : Completion) → told_of (walk_at m.tables.walks q) ≡ Some completion →
       (e : Entry) × (move_entry_of m.store p number completion.block ≡ Some e)
   entry_there completion told =
-      let walk_is = walk_for g x q phases.Moving w in
+      let walk_is = walk_for g x q Moving w in
       let of = is_request p number walk_is.request walk_is.of_piece in
       let same : walk_is.walk.0 ≡ completion =
       same_Some walk_is.walk.0 completion
@@ -146,7 +135,7 @@ module _ (g : Sight) (x : Parts) (q : ℕ) (w : IsWorking g x q phases.Moving) w
       (moved : move_entry_of m.store p number completion.block ≡ Some e) where
     stepping : engine_step m p ≡ Some (notes rows.Move m.tables (progress_of m p.at.process) number e)
     stepping =
-        goes g x q phases.Moving w
+        goes g x q Moving w
         ∙ ap (option_and_then (move m.store m.tables p (progress_of m p.at.process) number))
         (ap (λ (n : ℕ). told_of (walk_at m.tables.walks n)) known.process_is ∙ told)
         ∙ ap (option_map (notes rows.Move m.tables (progress_of m p.at.process) number)) moved
@@ -154,7 +143,7 @@ module _ (g : Sight) (x : Parts) (q : ℕ) (w : IsWorking g x q phases.Moving) w
     added : IsAdded w.at.reached.0 m p e
     added =
         turns_add_legally w.at.reached.0 m w.at.reached.1 p e
-        (by_engine (notes rows.Move m.tables (progress_of m p.at.process) number e) (running_there g x q phases.Moving w) stepping refl)
+        (by_engine (notes rows.Move m.tables (progress_of m p.at.process) number e) (running_there g x q Moving w) stepping refl)
 
     module _ (call : Call) (at : At) (c : Command) (called : call_at g.script at ≡ Some call) (at_is : at ≡ record { process = q; call = w.it.ended })
         (c_is : c ≡ w.hand.command) where
@@ -165,10 +154,10 @@ module _ (g : Sight) (x : Parts) (q : ℕ) (w : IsWorking g x q phases.Moving) w
       at_same = known.at_is ∙ sym at_is
 
       called_here : call_at m.script p.at ≡ Some p.call
-      called_here = (runs_at m p.at.process p (running_there g x q phases.Moving w)).called
+      called_here = (runs_at m p.at.process p (running_there g x q Moving w)).called
 
       before_here : p.before ≡ entries_of p.at m.journal
-      before_here = (runs_at m p.at.process p (running_there g x q phases.Moving w)).before_is
+      before_here = (runs_at m p.at.process p (running_there g x q Moving w)).before_is
 
       call_same : p.call ≡ call
       call_same =
@@ -198,7 +187,7 @@ module _ (g : Sight) (x : Parts) (q : ℕ) (w : IsWorking g x q phases.Moving) w
         within = subst IsCall call_same known.within;
         call_is = refl;
         at_is = refl;
-        command_is = subst (λ (k : Place). IsCommandOf k c) place_same (subst (IsCommandOf p) (sym c_is) (hand_is g x q phases.Moving w).command);
+        command_is = subst (λ (k : Place). IsCommandOf k c) place_same (subst (IsCommandOf p) (sym c_is) (hand_is g x q Moving w).command);
         moved = moved_there ∙ ap Some entry_same;
         legal = subst (IsLegalAt m.store place_at) entry_same
             (subst (λ (k : Place). IsLegalAt m.store k e) place_same (added_is_legal w.at.reached.0 m p e added));
@@ -208,8 +197,8 @@ module _ (g : Sight) (x : Parts) (q : ℕ) (w : IsWorking g x q phases.Moving) w
       moves_in_hand entry is = record {
         place = p;
         running_is = known.running_is;
-        hand = in_hand_of phases.Moving w.hand;
-        in_hand = in_hand g x q phases.Moving w;
+        hand = in_hand_of w.hand Moving;
+        in_hand = w.entered;
         phase_is = refl;
         completion = completion;
         told = told;
@@ -220,8 +209,8 @@ module _ (g : Sight) (x : Parts) (q : ℕ) (w : IsWorking g x q phases.Moving) w
     -- the entry is the one of the step
     moved_here : move_entry_of m.store p number is.completion.block ≡ Some e
     moved_here =
-        ap (λ (k : Place). move_entry_of m.store k number is.completion.block) (sym (same_place g x q phases.Moving w is.place is.running_is))
-        ∙ ap (λ (h : InHand). move_entry_of m.store is.place h.piece is.completion.block) (sym (same_hand g x q phases.Moving w is.hand is.in_hand))
+        ap (λ (k : Place). move_entry_of m.store k number is.completion.block) (sym (same_place g x q Moving w is.place is.running_is))
+        ∙ ap (λ (h : InHand). move_entry_of m.store is.place h.piece is.completion.block) (sym (same_hand g x q Moving w is.hand is.in_hand))
         ∙ is.moved
 
     added_here : IsAdded w.at.reached.0 m p e
@@ -247,13 +236,13 @@ module _ (g : Sight) (x : Parts) (q : ℕ) (w : IsWorking g x q phases.Moving) w
         ∙ get_or-map (λ (p : ScriptProcess). p.uid) g.script.processes q r 0 inside
         ∙ ap (λ (p : ScriptProcess). p.uid) (sym r_is) ∙ sym uid_is
 
-    pub moves_on : (changed : DiskState) (n z : Parts) (l : LogState) → IsDiskOf changed (after_change m.store e) → changed.held ≡ x.disk.held →
+    pub moves_on : (changed : DiskState) (n z : Parts T M P) (l : LogState) → IsDiskOf changed (after_change m.store e) → changed.held ≡ x.disk.held →
         NotesEntry (record x { disk = changed }) n q e → AppendsEntry n.log e l →
-        ((y : Process) (hand : Hand) → process_in n q ≡ Some y → y.hand ≡ Some hand →
-        Becomes (record n { log = l }) z q n.tables (with_answer y hand kinds.Moved)) → TakesStep g x z q rows.Move
+        ((y : Process P) (hand : Hand) → process_in n q ≡ Some y → y.hand ≡ Some hand →
+        Becomes (record n { log = l }) z q n.tables (with_answer y hand kinds.Moved)) → TakesStep K g x z q rows.Move
     moves_on changed n z l changed_is held noted log answered =
         let s : Noted x q m e changed n l = record { changed_is = changed_is; held = held; noted = noted; log = log } in
         let steps = stepping is.completion is.told e moved_here in
-        let call = noted_call g x q phases.Moving w refl refl rows.Move e steps changed n l s in
-        notes_on g x q phases.Moving w refl refl rows.Move e steps changed n l s z kinds.Moved move_of_piece
+        let call = noted_call g x q Moving w refl refl rows.Move e steps changed n l s in
+        notes_on g x q Moving w refl refl rows.Move e steps changed n l s z kinds.Moved move_of_piece
         (answered (record w.it { call = Some call.0 }) w.hand call.1 w.in_hand)

@@ -20,6 +20,7 @@ use Rattle.bd_turns.specs.Engines.{Step, engine_step}
 use Rattle.bd_turns.specs.State.{State, running}
 use Rattle.bd_turns.specs.Turns.{Acting, Nothing, Outcome, after_effect, after_step, answer_in, engine_outcome, invalidation_outcome, outcome_of, process_count, processor_outcome, state_after}
 use Rattle.bd_turns.proofs.RunningPlaces.{runs_at}
+use Rattle.bd_tables.specs.declared.sides.Tables as sides
 
 -- ---- the outcome
 
@@ -43,7 +44,8 @@ engine_acts m q p step runs steps =
     ap (λ (o : Option Place). option_map_or (λ (p : Place). of_step p (engine_step m p)) o Nothing) runs ∙ ap (of_step p) steps
 
 -- the same of the actor in the script
-acts_as : (g : Sight) (x : Parts) (q : ℕ) → Shows g.script x g.state → q < length g.script.processes → (outcome : Outcome) →
+acts_as : {T M P : Type 0} {K : sides.Ghosts T P} (g : Sight) (x : Parts T M P) (q : ℕ) → Shows K g.script x g.state → q < length g.script.processes →
+    (outcome : Outcome) →
     engine_outcome g.state q ≡ outcome → outcome_of g.state (length g.script.processes + q) ≡ outcome
 acts_as g x q shows inside outcome is =
     ap (λ (script : Script). outcome_of g.state (length script.processes + q)) (sym shows.script_is)
@@ -52,10 +54,11 @@ acts_as g x q shows inside outcome is =
 -- ---- the turn
 
 -- a step and the end of its turn are a turn
-pub turn_taken : (g : Sight) (x y z : Parts) (q actor : ℕ) (row : Row) → IsAt g.script x g.state → q < length g.script.processes →
-    TakesStep g x y q row → actor ≡ length y.processes.items + q → EndsTurn y z q actor row →
-    TookTurn g.script x z g.state (length g.script.processes + q) (Did row)
-turn_taken g x y z q actor row at inside t actor_is ends =
+pub turn_taken : {T M P : Type 0} {K : sides.Ghosts T P} (g : Sight) (x y z : Parts T M P) (q actor : ℕ) (row : Row) → IsAt K g.script x g.state →
+    q < length g.script.processes →
+    TakesStep K g x y q row → actor ≡ length y.processes.items + q → EndsTurn y z q actor row →
+    TookTurn K g.script x z g.state (length g.script.processes + q) (Did row)
+turn_taken {T} {M} {P} {K} g x y z q actor row at inside t actor_is ends =
     let m : State = g.state in
     let p : Place = t.place in
     let process_is : p.at.process ≡ q = ap (λ (at : At). at.process) (runs_at m q p t.running_is).at_is in
@@ -63,11 +66,11 @@ turn_taken g x y z q actor row at inside t actor_is ends =
     let outcome : outcome_of m (length g.script.processes + q) ≡ Acting t.step.row (after_step m p t.step) (option_to_list t.step.entry) =
     acts_as g x q at.shows inside (Acting t.step.row (after_step m p t.step) (option_to_list t.step.entry))
     (engine_acts m q p t.step t.running_is t.stepping) in
-    let shown : Shows g.script z (after_effect (state_stepped m p t.step) p) =
+    let shown : Shows K g.script z (after_effect (state_stepped m p t.step) p) =
     end_step g.script y z (state_stepped m p t.step) p t.before actor row t.shows t.still (subst (HasBegun y) (sym process_is) t.begun) t.later
     (subst (λ (n : ℕ). EndsTurn y z n actor row) (sym process_is) ends) in
     record {
-      shows = subst (Shows g.script z) (sym (ap (state_after m) outcome)) shown;
+      shows = subst (Shows K g.script z) (sym (ap (state_after m) outcome)) shown;
       answer = sym (ap answer_in outcome ∙ ap Did t.row_is);
       events =
           ends.log.events ∙ ap (λ (l : List Event). l ++ (record { turn = y.log.turns; actor = actor; row = row }) ∷ []) t.events
@@ -77,13 +80,13 @@ turn_taken g x y z q actor row at inside t actor_is ends =
     }
 
 -- an engine that has nothing to do is idle
-pub turn_idle : (g : Sight) (x y : Parts) (q : ℕ) → IsAt g.script x g.state → q < length g.script.processes →
-    (engine_outcome g.state q ≡ Nothing) × StaysAt g.script x y g.state → TookTurn g.script x y g.state (length g.script.processes + q) Idle
-turn_idle g x y q at inside idle =
+pub turn_idle : {T M P : Type 0} {K : sides.Ghosts T P} (g : Sight) (x y : Parts T M P) (q : ℕ) → IsAt K g.script x g.state → q < length g.script.processes →
+    (engine_outcome g.state q ≡ Nothing) × StaysAt K g.script x y g.state → TookTurn K g.script x y g.state (length g.script.processes + q) Idle
+turn_idle {T} {M} {P} {K} g x y q at inside idle =
     let m : State = g.state in
     let outcome = acts_as g x q at.shows inside Nothing idle.0 in
     record {
-      shows = subst (Shows g.script y) (sym (ap (state_after m) outcome)) idle.1.shows;
+      shows = subst (Shows K g.script y) (sym (ap (state_after m) outcome)) idle.1.shows;
       answer = sym (ap answer_in outcome);
       events = idle.1.events ∙ sym (append-nil x.log.events);
       turns = idle.1.turns;
@@ -92,7 +95,8 @@ turn_idle g x y q at inside idle =
 -- ---- the log
 
 -- room in the log changes nothing of what the parts show
-pub shows_log : (script : Script) (x : Parts) (m : State) (l : LogState) → TellsSame x.log l → Shows script x m → Shows script (record x { log = l }) m
+pub shows_log : {T M P : Type 0} {K : sides.Ghosts T P} (script : Script) (x : Parts T M P) (m : State) (l : LogState) → TellsSame x.log l →
+    Shows K script x m → Shows K script (record x { log = l }) m
 shows_log script x m l same shows = record {
   script_is = shows.script_is;
   disk = shows.disk;

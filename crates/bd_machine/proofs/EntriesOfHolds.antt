@@ -11,7 +11,7 @@ use Rattle.bd_kernel.specs.Sights.{place_of, store_of}
 use Rattle.bd_kernel.specs.Turns.{AreEntriesOf, IsFileOf, Progress}
 
 -- the store of the files and the descriptors of a disk
-store_is : (disk : DiskState) (s : Store) → IsDiskOf disk s → store_of (files_on disk) disk.rows s.uids s.bytes s.work ≡ s
+pub store_is : (disk : DiskState) (s : Store) → IsDiskOf disk s → store_of (files_on disk) disk.rows s.uids s.bytes s.work ≡ s
 store_is disk s is =
     λ i. record {
       total = sym is.total i;

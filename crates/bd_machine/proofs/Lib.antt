@@ -13,6 +13,7 @@ pub mod ProcessorBegins
 pub mod ProcessorNext
 pub mod ProcessorReady
 pub mod ProcessorKinds
+pub mod EnginePhases
 pub mod EngineFacts
 pub mod EngineSteps
 pub mod EnginePasses
@@ -20,6 +21,7 @@ pub mod EngineWalks
 pub mod EngineLooks
 pub mod EngineEnters
 pub mod EngineCompletes
+pub mod ShowingHands
 pub mod ShowingKept
 pub mod ShowingEntries
 pub mod ShowingUsers
@@ -50,7 +52,11 @@ pub mod EngineNotes
 pub mod EngineMisses
 pub mod EngineMoves
 pub mod EngineEntries
+pub mod EngineTakings
 pub mod EngineTurns
+pub mod EngineCounts
+pub mod EngineAsks
+pub mod MachineAsks
 pub mod ShowingEnded
 pub mod ProcessorAdded
 pub mod CourseTurns

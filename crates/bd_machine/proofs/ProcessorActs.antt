@@ -127,7 +127,8 @@ goes_on v m p reached is = ⊎_elim without with (cases_Bool (is_none_of (outsta
     without : is_none_of (outstanding (progress_of m p.at.process)) ≡ true → IsDone m.store (running_of m p) (next_act m.store nobody (running_of m p))
     without none =
         let ended : is_ended_by p.call p.before ≡ false =
-        unfinished (is_ended_by p.call p.before) (is_none_of (outstanding (progress_of m p.at.process))) (reached.sound.calls.unended p.at.process p is) none in
+        unfinished (is_ended_by p.call p.before) (is_none_of (outstanding (progress_of m p.at.process)))
+        (reached.sound.calls.unended p.at.process p is) none in
         let runs = runs_at m p.at.process p is in
         let next = next_call m p runs reached.sound.calls.in_turn ended in
         let work : work_of m.store p.at.process ≡ p.before =

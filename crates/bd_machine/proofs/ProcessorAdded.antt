@@ -17,7 +17,7 @@ use Rattle.bd_machine.specs.declared.parts.Parts.{Parts}
 use Rattle.bd_machine.specs.declared.process.Process.{Process}
 use Rattle.bd_machine.specs.Logs.{LogState}
 use Rattle.bd_machine.specs.Shows.{Shows}
-use Rattle.bd_machine.specs.Turns.{AreFew, EndsTurn, HasBegun, MayHold, NotesEntry, TookTurn, is_built, with_hold}
+use Rattle.bd_machine.specs.Turns.{AreFew, EndsTurn, HasBegun, MayHold, NotesEntry, PassesStay, TookTurn, is_built, with_hold}
 use Rattle.bd_machine.proofs.ProcessorAdds.{after_is, ghost_after}
 use Rattle.bd_machine.proofs.ProcessorEnds.{none_later, took_did}
 use Rattle.bd_machine.proofs.ProcessorEntries.{AddsHere}
@@ -27,7 +27,7 @@ use Rattle.bd_machine.proofs.ProcessorReady.{Ready, place}
 use Rattle.bd_machine.proofs.ProcessorSteps.{running_kept}
 use Rattle.bd_machine.proofs.ProcessorSubmits.{there_is}
 use Rattle.bd_machine.proofs.Showing.{AddsEntry, IsOf, end_step, entry_begun, entry_running, entry_step, hold_step, processor_is_of, tables_step, with_one_more}
-use Rattle.bd_tables.specs.Plain.{PlainState, tables_of}
+use Rattle.bd_tables.specs.Seen.{ShowsAfter}
 use Rattle.bd_tables.specs.State.{TableState}
 use Rattle.bd_turns.specs.declared.turn.Turn.TheVariants.{Did}
 use Rattle.bd_turns.specs.Processors as processors
@@ -36,6 +36,7 @@ use Rattle.bd_turns.specs.State.{Progress, State, progress_of, with_progress}
 use Rattle.bd_turns.specs.Turns.{after_adding, after_effect, holds_after, tables_after, with_entry}
 use Rattle.bd_turns.proofs.AddedEntries.{added_place}
 use Rattle.bd_turns.proofs.DoneTurns.{progress_of-set}
+use Rattle.bd_tables.specs.declared.sides.Tables as sides
 
 -- the entry of another call is none of the next one
 other_call : (process call : ℕ) (at : At) → at ≡ record { process = process; call = call } →
@@ -48,18 +49,19 @@ other_call process call at is =
     by true = refl
     by false = refl
 
-module _ (script : Script) (x : Parts) (m : State) (process : ℕ) (y : Process) (c : kernel.Progress) (act : Act) (r : Ready script x m process y c act)
+module _ {T M P : Type 0} {K : sides.Ghosts T P} (script : Script) (x : Parts T M P) (m : State) (process : ℕ) (y : Process P) (c : kernel.Progress)
+    (act : Act) (r : Ready K script x m process y c act)
     (e : Entry) (adds : AddsHere r.v m (place script x m process y c act r) act e) where
   abbrev p : Place
   p = place script x m process y c act r
 
   -- what the steps of the turn made, after the entry was made and before the turn is counted
-  pub record Carried (d : DiskState) (z : Parts) (tables : PlainState) (log : LogState) (held : Option ℕ) : Type 0 where
+  pub record Carried (d : DiskState) (z : Parts T M P) (tables : T) (log : LogState) (held : Option ℕ) : Type 0 where
     pub changed : IsDiskOf d (after_change m.store e)
     pub same_holds : d.held ≡ x.disk.held
     pub noted : NotesEntry (record x { disk = d }) z process e
-    pub tables_are : tables_of tables ≡ tables_after (ghost_after script x m process y c act r e adds) (tables_of z.tables) e
-    pub places : tables.places ≡ z.tables.places
+    pub tables_are : ShowsAfter K.shows z.tables tables (λ t. tables_after (ghost_after script x m process y c act r e adds) t e)
+    pub passes : PassesStay K z.tables tables
     pub entries : log.entries ≡ x.log.entries ++ e ∷ []
     pub held_is : held ≡ cond (holds_after p.call (row_of_entry e)) (file_of m.store p) None
 
@@ -77,9 +79,9 @@ module _ (script : Script) (x : Parts) (m : State) (process : ℕ) (y : Process)
       (may_hold_if script x m p (holds_after p.call (row_of_entry e)) r.here.shows
       (λ after. taken_alone r.v m p act e r.reached r.here.runs r.acts.next adds.adds adds.acting adds.added built after))
 
-  module _ (d : DiskState) (z : Parts) (tables : PlainState) (log : LogState) (held : Option ℕ) (carried : Carried d z tables log held) where
+  module _ (d : DiskState) (z : Parts T M P) (tables : T) (log : LogState) (held : Option ℕ) (carried : Carried d z tables log held) where
     -- the parts once the call took note of the entry, and it stands in the journal
-    abbrev noted_parts : Parts
+    abbrev noted_parts : Parts T M P
     noted_parts = record z { log = log }
 
     abbrev noted_state : State
@@ -91,17 +93,17 @@ module _ (script : Script) (x : Parts) (m : State) (process : ℕ) (y : Process)
       changed_is = carried.changed;
       held = carried.same_holds;
       noted =
-          subst (λ (w : Parts). NotesEntry (record x { disk = d }) w process e)
+          subst (λ (w : Parts T M P). NotesEntry (record x { disk = d }) w process e)
           (ap (λ (l : LogState). record z { log = l }) carried.noted.log) carried.noted;
       entries = carried.entries;
     }
 
     -- then the tables follow, and the process holds its file
-    abbrev pub held_parts : Parts
+    abbrev pub held_parts : Parts T M P
     held_parts = with_hold (record z { tables = tables; log = log }) process held
 
     abbrev tabled_state : State
-    tabled_state = record noted_state { tables = tables_of tables }
+    tabled_state = record noted_state { tables = tables_after (ghost_after script x m process y c act r e adds) m.tables e }
 
     abbrev held_progress : Progress
     held_progress = record (progress_of m process) { held = held }
@@ -109,15 +111,17 @@ module _ (script : Script) (x : Parts) (m : State) (process : ℕ) (y : Process)
     abbrev held_state : State
     held_state = with_progress tabled_state process held_progress
 
-    shows_noted : Shows script noted_parts noted_state
+    shows_noted : Shows K script noted_parts noted_state
     shows_noted = entry_step script x noted_parts m p e r.here.shows begun_here of_place adds_entry
 
     there : process < length m.processes
     there = there_is script x m process y r.here.shows r.here.there
 
-    shows_held : Shows script held_parts held_state
+    shows_held : Shows K script held_parts held_state
     shows_held =
-        let tabled = tables_step script noted_parts noted_state tables shows_noted carried.places in
+        let after : TableState = tables_after (ghost_after script x m process y c act r e adds) m.tables e in
+        let tabled = tables_step script noted_parts noted_state tables after shows_noted carried.passes
+        (carried.tables_are m.tables shows_noted.tables) in
         let within = there in
         hold_step script (record noted_parts { tables = tables }) tabled_state process held tabled (omega (arith, within, r.here.shows.progresses))
 
@@ -142,10 +146,8 @@ module _ (script : Script) (x : Parts) (m : State) (process : ℕ) (y : Process)
     after_is_adding =
         let store : ghost_after script x m process y c act r e adds ≡ noted_state.store =
         after_is script x m process y c act r e adds ∙ ap (λ (q : Place). effect_of m.store q e) (sym (added_place r.v m p e adds.added)) in
-        let was : tables_of z.tables ≡ m.tables = ap tables_of carried.noted.tables ∙ sym r.here.shows.tables in
-        let is : tables_of tables ≡ tables_after noted_state.store m.tables e =
-        carried.tables_are ∙ ap (λ (s : Store). tables_after s (tables_of z.tables) e) store
-        ∙ ap (λ (t : TableState). tables_after noted_state.store t e) was in
+        let is : tables_after (ghost_after script x m process y c act r e adds) m.tables e ≡ tables_after noted_state.store m.tables e =
+        ap (λ (s : Store). tables_after s m.tables e) store in
         ap
         (λ (t : TableState). after_effect (with_progress (record noted_state { tables = t }) process (record (progress_of m process) { held = held })) p)
         is
@@ -155,8 +157,8 @@ module _ (script : Script) (x : Parts) (m : State) (process : ℕ) (y : Process)
         p)
         carried.held_is
 
-    pub took_entry : (old new : Parts) → log.events ≡ old.log.events → log.turns ≡ old.log.turns →
-        EndsTurn held_parts new process process (row_of_entry e) → TookTurn script old new m process (Did (row_of_entry e))
+    pub took_entry : (old new : Parts T M P) → log.events ≡ old.log.events → log.turns ≡ old.log.turns →
+        EndsTurn held_parts new process process (row_of_entry e) → TookTurn K script old new m process (Did (row_of_entry e))
     took_entry old new events turns ends =
         let ended : (progress_of held_state process).ended ≡ (progress_of noted_state process).ended =
         ap (λ (g : Progress). g.ended) (progress_of-set tabled_state process held_progress there) in
@@ -164,7 +166,7 @@ module _ (script : Script) (x : Parts) (m : State) (process : ℕ) (y : Process)
         entries_of-other m.journal e (record { process = process; call = p.at.call + 1 }) (other_call process p.at.call (at_of e) adds.added.at_is)
         ∙ none_later r.v m p r.reached r.here.runs in
         took_did script old held_parts new m process (row_of_entry e) (after_adding m p (row_of_entry e) e) (e ∷ [])
-        (subst (Shows script new) after_is_adding
+        (subst (Shows K script new) after_is_adding
         (end_step script held_parts new held_state p (with_one_more p e).before process (row_of_entry e) shows_held
         (running_kept noted_state held_state process refl refl ended ∙ entry_running m p e of_place) begun_held later ends))
         (outcome_for m process p (processors.Adds (row_of_entry e) e) r.here.runs adds.acting) events turns ends.log

@@ -34,7 +34,6 @@ use Rattle.bd_machine.proofs.EntriesOfActs.{attaches_by_open}
 use Rattle.bd_machine.proofs.ProcessorCommands.{kept}
 use Rattle.bd_machine.proofs.ProcessorEntries.{AddsHere, adds_here, entry_there}
 use Rattle.bd_machine.proofs.ProcessorReady.{Ready, place}
-use Rattle.bd_tables.specs.Plain.{tables_of}
 use Rattle.bd_turns.specs.Added.{IsAdded}
 use Rattle.bd_turns.specs.Processors.{row_of_entry, running_of}
 use Rattle.bd_turns.specs.State.{State, running}
@@ -42,6 +41,7 @@ use Rattle.bd_turns.specs.Turns.{cell_in, cells_from, cells_of_part}
 use Rattle.bd_turns.proofs.EntriesOfCalls.{added_place}
 use Rattle.bd_turns.proofs.FilesOfCalls.{descriptor_kept, store_after}
 use Rattle.bd_turns.proofs.RunningPlaces.{ready, runs_at}
+use Rattle.bd_tables.specs.declared.sides.Tables as sides
 
 -- ---- the cells that an attach hands in
 
@@ -82,7 +82,8 @@ cells_in v m p e disk cells added valid is are = tt
 
 -- ---- an action that adds an entry
 
-module _ (script : Script) (x : Parts) (m : State) (process : ℕ) (y : Process) (c : kernel.Progress) (act : Act) (r : Ready script x m process y c act) where
+module _ {T M P : Type 0} {K : sides.Ghosts T P} (script : Script) (x : Parts T M P) (m : State) (process : ℕ) (y : Process P) (c : kernel.Progress)
+    (act : Act) (r : Ready K script x m process y c act) where
   abbrev p : Place
   p = place script x m process y c act r
 
@@ -164,7 +165,7 @@ module _ (script : Script) (x : Parts) (m : State) (process : ℕ) (y : Process)
         ap (λ (o : Option Call). option_map_or (λ (call : Call). effect_of m.store (place_in m.store call (at_of e)) e) o m.store) adds.added.next.call_is
         ∙ ap (λ (q : Place). effect_of m.store q e) (added_place r.v m p e adds.added)
 
-    module _ (d : DiskState) (changed : IsDiskOf d (after_change m.store e)) (z : Parts) (noted : NotesEntry (record x { disk = d }) z process e) where
+    module _ (d : DiskState) (changed : IsDiskOf d (after_change m.store e)) (z : Parts T M P) (noted : NotesEntry (record x { disk = d }) z process e) where
       -- so does the disk once the call took note of it
       pub noted_disk : IsDiskOf z.disk (effect_of m.store p e)
       noted_disk =
@@ -175,9 +176,9 @@ module _ (script : Script) (x : Parts) (m : State) (process : ℕ) (y : Process)
 
       -- and the tables can follow
       pub can_follow : (cells : List Cell) → AreCellsFor x.disk process e cells →
-          CanChangeTables z (record { process = (at_of e).process; before = m; after = ghost_after }) e cells
+          CanChangeTables K z (record { process = (at_of e).process; before = m; after = ghost_after }) e cells
       can_follow cells are = record {
-        tables = r.here.shows.tables ∙ ap tables_of (sym noted.tables);
+        tables = subst (λ (t : T). K.shows t m.tables) (sym noted.tables) r.here.shows.tables;
         reached = (r.v, r.reached);
         place = p;
         running_is = ap (λ (at : At). running m at.process) adds.added.at_is ∙ r.here.runs;

@@ -15,13 +15,15 @@ use Rattle.bd_turns.specs.Reached.{IsReached}
 use Rattle.bd_turns.specs.State.{State, progress_of, running}
 use Rattle.bd_turns.specs.Turns.{Acting, Outcome, answer_in, outcome_of, state_after}
 use Rattle.bd_turns.proofs.RunningPlaces.{runs_at}
+use Rattle.bd_tables.specs.declared.sides.Tables as sides
 
 -- an effective turn that came to this outcome was counted and told
-pub took_did : (script : Script) (x y z : Parts) (m : State) (actor : ℕ) (row : Row) (next : State) (added : List Entry) →
-    Shows script z next → outcome_of m actor ≡ Acting row next added → y.log.events ≡ x.log.events → y.log.turns ≡ x.log.turns →
-    AppendsEvent y.log (record { turn = y.log.turns; actor = actor; row = row }) z.log → TookTurn script x z m actor (Did row)
-took_did script x y z m actor row next added shows is events turns appends = record {
-  shows = subst (λ (o : Outcome). Shows script z (state_after m o)) (sym is) shows;
+pub took_did : {T M P : Type 0} {K : sides.Ghosts T P} (script : Script) (x y z : Parts T M P) (m : State) (actor : ℕ) (row : Row) (next : State)
+    (added : List Entry) →
+    Shows K script z next → outcome_of m actor ≡ Acting row next added → y.log.events ≡ x.log.events → y.log.turns ≡ x.log.turns →
+    AppendsEvent y.log (record { turn = y.log.turns; actor = actor; row = row }) z.log → TookTurn K script x z m actor (Did row)
+took_did {K = K} script x y z m actor row next added shows is events turns appends = record {
+  shows = subst (λ (o : Outcome). Shows K script z (state_after m o)) (sym is) shows;
   answer = ap answer_in (sym is);
   events = appends.events ∙ ap (λ (l : List _). l ++ record { turn = y.log.turns; actor = actor; row = row } ∷ []) events
       ∙ ap (λ (n : ℕ). x.log.events ++ record { turn = n; actor = actor; row = row } ∷ []) turns;

@@ -24,6 +24,7 @@ use Rattle.bd_turns.specs.State.{Progress, State, progress_of, running}
 use Rattle.bd_turns.specs.Turns.{Nothing, Outcome, Waiting, answer_in, engine_outcome, invalidation_outcome, outcome_of, outcome_of_action, process_count, processor_outcome, state_after}
 use Rattle.bd_turns.proofs.Acting.{process_within}
 use Rattle.bd_turns.proofs.RunningPlaces.{runs_at}
+use Rattle.bd_tables.specs.declared.sides.Tables as sides
 
 -- ---- the outcome of a processor's turn
 
@@ -51,8 +52,9 @@ outcome_idle m process within none =
 -- ---- turns that change nothing
 
 -- the log tells the same
-pub log_step : (script : Script) (x : Parts) (m : State) (log : LogState) → Shows script x m → log.entries ≡ x.log.entries →
-    Shows script (record x { log = log }) m
+pub log_step : {T M P : Type 0} {K : sides.Ghosts T P} (script : Script) (x : Parts T M P) (m : State) (log : LogState) → Shows K script x m →
+    log.entries ≡ x.log.entries →
+    Shows K script (record x { log = log }) m
 log_step script x m log shows same = record {
   script_is = shows.script_is;
   disk = shows.disk;
@@ -66,21 +68,21 @@ log_step script x m log shows same = record {
   each = shows.each;
 }
 
-pub took_wait : (script : Script) (x y : Parts) (m : State) (actor : ℕ) (wait : Wait) → Shows script y m →
+pub took_wait : {T M P : Type 0} {K : sides.Ghosts T P} (script : Script) (x y : Parts T M P) (m : State) (actor : ℕ) (wait : Wait) → Shows K script y m →
     outcome_of m actor ≡ Waiting wait → y.log.events ≡ x.log.events → y.log.turns ≡ x.log.turns →
-    TookTurn script x y m actor (Waits wait)
-took_wait script x y m actor wait shows is events turns = record {
-  shows = subst (λ (o : Outcome). Shows script y (state_after m o)) (sym is) shows;
+    TookTurn K script x y m actor (Waits wait)
+took_wait {K = K} script x y m actor wait shows is events turns = record {
+  shows = subst (λ (o : Outcome). Shows K script y (state_after m o)) (sym is) shows;
   answer = ap answer_in (sym is);
   events = events ∙ sym (append-nil x.log.events);
   turns = turns;
 }
 
-pub took_idle : (script : Script) (x y : Parts) (m : State) (actor : ℕ) → Shows script y m →
+pub took_idle : {T M P : Type 0} {K : sides.Ghosts T P} (script : Script) (x y : Parts T M P) (m : State) (actor : ℕ) → Shows K script y m →
     outcome_of m actor ≡ Nothing → y.log.events ≡ x.log.events → y.log.turns ≡ x.log.turns →
-    TookTurn script x y m actor Idle
-took_idle script x y m actor shows is events turns = record {
-  shows = subst (λ (o : Outcome). Shows script y (state_after m o)) (sym is) shows;
+    TookTurn K script x y m actor Idle
+took_idle {K = K} script x y m actor shows is events turns = record {
+  shows = subst (λ (o : Outcome). Shows K script y (state_after m o)) (sym is) shows;
   answer = ap answer_in (sym is);
   events = events ∙ sym (append-nil x.log.events);
   turns = turns;
@@ -121,7 +123,8 @@ is_counted v m process p reached is =
     }
 
 -- so it is with what the parts keep of them
-pub few_shown : (script : Script) (x : Parts) (m : State) (process : ℕ) → Shows script x m → IsCounted (progress_of m process) →
+pub few_shown : {T M P : Type 0} {K : sides.Ghosts T P} (script : Script) (x : Parts T M P) (m : State) (process : ℕ) → Shows K script x m → IsCounted
+    (progress_of m process) →
     AreFew x process
 few_shown script x m process shows counted = record {
   calls = λ y there.

@@ -45,6 +45,7 @@ use Rattle.bd_turns.specs.Turns.{holds_after, holds_throughout}
 use Rattle.bd_turns.proofs.ActionsOfCalls.{AloneOn, alone_tested, held_from, passed-alone}
 use Rattle.bd_turns.proofs.EntriesOfCalls.{alone_adding, needs_hold}
 use Rattle.bd_turns.proofs.FoundElements.{slice_get-there}
+use Rattle.bd_tables.specs.declared.sides.Tables as sides
 
 -- ---- who holds a file
 
@@ -63,7 +64,7 @@ holder-of_list file xs =
     position_from-zero (does_hold file) xs ∙ positions file 0 xs ∙ sym (position_from-zero (kernel.does_hold file) (holds_of xs))
 
 -- the parts keep them
-holds_shown : (script : Script) (x : Parts) (m : State) → Shows script x m → holds_of m.processes ≡ x.disk.held
+holds_shown : {T M P : Type 0} {K : sides.Ghosts T P} (script : Script) (x : Parts T M P) (m : State) → Shows K script x m → holds_of m.processes ≡ x.disk.held
 holds_shown script x m shows =
     same_lists (holds_of m.processes) x.disk.held (length-map m.processes (λ (q : Progress). q.held) ∙ shows.progresses ∙ sym shows.holders)
     (λ k d below.
@@ -75,13 +76,14 @@ holds_shown script x m shows =
     get_or-map (λ (q : Progress). q.held) m.processes k new_progress d within
     ∙ ap (λ (q : Progress). q.held) (shows.each k y.0 y.1).progress ∙ get_or_default x.disk.held k None d held)
 
-pub holder_shown : (script : Script) (x : Parts) (m : State) → Shows script x m → holder_of m ≡ holder_in x.disk.held
+pub holder_shown : {T M P : Type 0} {K : sides.Ghosts T P} (script : Script) (x : Parts T M P) (m : State) → Shows K script x m →
+    holder_of m ≡ holder_in x.disk.held
 holder_shown script x m shows =
     let same : (file : ℕ) → holder_of m file ≡ holder_in x.disk.held file =
     λ file. holder-of_list file m.processes ∙ ap (λ (held : List (Option ℕ)). holder_in held file) (holds_shown script x m shows) in
     λ i file. same file i
 
-pub held_shown : (script : Script) (x : Parts) (m : State) (process : ℕ) → Shows script x m →
+pub held_shown : {T M P : Type 0} {K : sides.Ghosts T P} (script : Script) (x : Parts T M P) (m : State) (process : ℕ) → Shows K script x m →
     (progress_of m process).held ≡ slice_index_or x.disk.held process None
 held_shown script x m process shows =
     sym (get_or_of-map (λ (q : Progress). q.held) m.processes process new_progress)
@@ -90,7 +92,7 @@ held_shown script x m process shows =
 -- ---- a file that is taken
 
 -- a process may hold the file of its call that nobody else holds
-may_hold : (script : Script) (x : Parts) (m : State) (p : Place) (file : ℕ) → Shows script x m → AloneOn m p →
+may_hold : {T M P : Type 0} {K : sides.Ghosts T P} (script : Script) (x : Parts T M P) (m : State) (p : Place) (file : ℕ) → Shows K script x m → AloneOn m p →
     file_of m.store p ≡ Some file → MayHold x.disk.held p.at.process (Some file)
 may_hold script x m p file shows alone of = by (holder_in x.disk.held file) refl
   where
@@ -103,7 +105,7 @@ may_hold script x m p file shows alone of = by (holder_in x.disk.held file) refl
         inr (sym (held_shown script x m p.at.process shows) ∙ ap (λ (q : ℕ). (progress_of m q).held) (sym mine) ∙ holds)
 
 -- so it may where it holds one after its turn
-pub may_hold_if : (script : Script) (x : Parts) (m : State) (p : Place) (holds : Bool) → Shows script x m →
+pub may_hold_if : {T M P : Type 0} {K : sides.Ghosts T P} (script : Script) (x : Parts T M P) (m : State) (p : Place) (holds : Bool) → Shows K script x m →
     (holds ≡ true → AloneOn m p) → MayHold x.disk.held p.at.process (cond holds (file_of m.store p) None)
 may_hold_if script x m p false shows alone = tt
 may_hold_if script x m p true shows alone = by (file_of m.store p) refl

@@ -13,6 +13,7 @@ use Rattle.bd_machine.specs.declared.process.Process.{Process}
 use Rattle.bd_machine.specs.Turns.{IsAt, IsRunning, process_in}
 use Rattle.bd_turns.specs.State.{Progress, State, place_of, progress_of, running, running_at}
 use Rattle.bd_turns.proofs.FoundElements.{slice_get-there}
+use Rattle.bd_tables.specs.declared.sides.Tables as sides
 
 -- a process of the script at an index
 pub process_of_script : (script : Script) (process i : ℕ) (processes : List ScriptProcess) (it : ScriptProcess) → process < length script.processes →
@@ -21,7 +22,8 @@ process_of_script script process i processes it within all same is =
     slice_get_read script.processes (length script.processes) process it refl within
     (is ∙ ap (λ (ps : List ScriptProcess). get_or ps i it) all ∙ ap (λ (n : ℕ). get_or script.processes n it) same)
 
-module _ (script : Script) (x : Parts) (m : State) (process : ℕ) (y : Process) (it : ScriptProcess) (is : IsAt script x m)
+module _ {T M P : Type 0} {K : sides.Ghosts T P} (script : Script) (x : Parts T M P) (m : State) (process : ℕ) (y : Process P) (it : ScriptProcess)
+    (is : IsAt K script x m)
     (there : process_in x process ≡ Some y) (of : slice_get script.processes process ≡ Some it) where
   calls_are : calls_of m.script process ≡ it.calls
   calls_are =

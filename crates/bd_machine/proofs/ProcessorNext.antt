@@ -23,6 +23,7 @@ use Rattle.bd_machine.proofs.ProcessorHolds.{holder_shown}
 use Rattle.bd_turns.specs.Processors.{running_of}
 use Rattle.bd_turns.specs.State.{State, holder_of, running, running_at}
 use Rattle.bd_turns.proofs.RunningPlaces.{runs_at}
+use Rattle.bd_tables.specs.declared.sides.Tables as sides
 
 -- the store that a disk shows is that of its files, bytes and descriptors
 pub store_shown : (d : DiskState) (s : Store) → IsDiskOf d s → store_of (files_on d) d.rows s.uids s.bytes s.work ≡ s
@@ -30,8 +31,9 @@ store_shown d s is =
     λ i. record { total = sym is.total i; uids = s.uids; files = sym is.files i; bytes = s.bytes; opens = sym is.opens i; work = s.work }
 
 -- what a call does next as its parts say is what it does in the state that they show
-pub next_shown : (script : Script) (x : Parts) (m : State) (p : Place) (y : Process) (c : kernel.Progress) (fs : Files) (table : Table)
-    (answer : Option Act) → RunsHere script x m p y c → fs ≡ files_on x.disk → table ≡ table_on x.disk → kernel.IsNextAct fs table c answer →
+pub next_shown : {T M P : Type 0} {K : sides.Ghosts T P} (script : Script) (x : Parts T M P) (m : State) (p : Place) (y : Process P) (c : kernel.Progress)
+    (fs : Files) (table : Table)
+    (answer : Option Act) → RunsHere K script x m p y c → fs ≡ files_on x.disk → table ≡ table_on x.disk → kernel.IsNextAct fs table c answer →
     answer ≡ next_act m.store (holder_of m) (running_of m p)
 next_shown script x m p y c fs table answer here files rows is =
     let s : Store = store_of (files_on x.disk) x.disk.rows m.store.uids m.store.bytes m.store.work in
@@ -78,16 +80,18 @@ acts_here m process act is =
 -- ---- a call that was begun
 
 -- it runs at this place, and this is kept of it
-pub record Here (script : Script) (x : Parts) (m : State) (process : ℕ) (y : Process) (c : kernel.Progress) : Type 0 where
+pub record Here {T M P : Type 0} (K : sides.Ghosts T P) (script : Script) (x : Parts T M P) (m : State) (process : ℕ) (y : Process P)
+    (c : kernel.Progress) : Type 0 where
   pub call : Call
   pub before : List Entry
-  pub here : RunsHere script x m (place_for m process call before) y c
+  pub here : RunsHere K script x m (place_for m process call before) y c
 
-pub here_for : (script : Script) (x : Parts) (m : State) (process : ℕ) (y : Process) (c : kernel.Progress) → Shows script x m →
-    process_in x process ≡ Some y → y.call ≡ Some c → Here script x m process y c
-here_for script x m process y c shows there begun = by (running m process) refl
+pub here_for : {T M P : Type 0} {K : sides.Ghosts T P} (script : Script) (x : Parts T M P) (m : State) (process : ℕ) (y : Process P) (c : kernel.Progress) →
+    Shows K script x m →
+    process_in x process ≡ Some y → y.call ≡ Some c → Here K script x m process y c
+here_for {K = K} script x m process y c shows there begun = by (running m process) refl
   where
-    by : (o : Option Place) → running m process ≡ o → Here script x m process y c
+    by : (o : Option Place) → running m process ≡ o → Here K script x m process y c
     by None none = absurd (none-some c (sym ((shows.each process y there).none none) ∙ begun))
     by (Some p) is =
         record {
@@ -97,8 +101,9 @@ here_for script x m process y c shows there begun = by (running m process) refl
         }
 
 -- the same where this is what it does next
-pub here_acting : (script : Script) (x : Parts) (m : State) (process : ℕ) (y : Process) (c : kernel.Progress) (act : Act) → Shows script x m →
+pub here_acting : {T M P : Type 0} {K : sides.Ghosts T P} (script : Script) (x : Parts T M P) (m : State) (process : ℕ) (y : Process P)
+    (c : kernel.Progress) (act : Act) → Shows K script x m →
     process_in x process ≡ Some y → y.call ≡ Some c → (acts : ActsHere m process act) →
-    RunsHere script x m (place_for m process acts.call acts.before) y c
+    RunsHere K script x m (place_for m process acts.call acts.before) y c
 here_acting script x m process y c act shows there begun acts =
     record { shows = shows; runs = acts.runs; there = there; call_is = begun }

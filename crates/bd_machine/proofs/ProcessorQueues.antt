@@ -10,11 +10,12 @@ use Rattle.bd_base.proofs.Counts.{one_if}
 use Rattle.bd_queue_pair.specs.declared.command.Command.{Command}
 use Rattle.bd_queue_pair.specs.declared.command.Done.{Done}
 use Rattle.bd_queue_pair.specs.Queues as queues
-use Rattle.bd_queue_pair.specs.Queues.{Queues, outstanding_of}
+use Rattle.bd_queue_pair.specs.Queues.{outstanding_of}
 use Rattle.bd_machine.specs.declared.process.Hand.{Hand}
 use Rattle.bd_machine.specs.declared.process.Process.{Process}
-use Rattle.bd_machine.specs.Shows.{completed_of, in_hand_of, progress_shown}
-use Rattle.bd_turns.specs.State.{Completed, outstanding, pieces_in_hand}
+use Rattle.bd_machine.specs.Shows.{completed_of, pieces_of_commands, progress_shown}
+use Rattle.bd_machine.proofs.ShowingHands.{outstanding_shown, pieces_held}
+use Rattle.bd_turns.specs.State.{Completed, Phase, outstanding}
 use Rattle.bd_turns.proofs.CommandSteps.{count-cons}
 
 -- ---- few commands
@@ -49,22 +50,24 @@ at_most_five xs all differ = omega (arith, counted xs all, differ 0, differ 1, d
 -- ---- the queues
 
 -- the pieces of commands that are not polled yet, in a queue pair
-length_outstanding : (x : Process) → x.queue.in_hand ≡ option_to_list (option_map (λ (h : Hand). h.command) x.hand) →
-    length (outstanding (progress_shown None x)) ≡ queues.outstanding x.queue
-length_outstanding x taken =
+length_outstanding : {P : Type 0} (x : Process P) (held : Option ℕ) (phase : Option Phase) →
+    x.queue.in_hand ≡ option_to_list (option_map (λ (h : Hand). h.command) x.hand) →
+    length (outstanding (progress_shown held phase x)) ≡ queues.outstanding x.queue
+length_outstanding x held phase taken =
     let done : List ℕ = map (λ (c : Completed). c.piece) (map completed_of x.queue.completed) in
-    let hand : List ℕ = pieces_in_hand (option_map (in_hand_of x.phase) x.hand) in
-    let rest : List ℕ = map (λ (c : Command). c.piece) x.queue.submitted in
+    let hand : List ℕ = pieces_held x.hand in
+    let rest : List ℕ = pieces_of_commands x.queue.submitted in
+    let all : length (outstanding (progress_shown held phase x)) ≡ length (done ++ hand ++ rest) =
+    ap (λ (l : List ℕ). length l) (outstanding_shown held phase x) in
     let outer = length-append (done ++ hand) rest in
     let inner = length-append done hand in
     let first : length done ≡ length x.queue.completed =
     length-map (map completed_of x.queue.completed) (λ (c : Completed). c.piece) ∙ length-map x.queue.completed completed_of in
     let last : length rest ≡ length x.queue.submitted = length-map x.queue.submitted (λ (c : Command). c.piece) in
     let in_hand : length hand ≡ length x.queue.in_hand = of_hand x.hand ∙ ap (λ (l : List Command). length l) (sym taken) in
-    omega (arith, outer, inner, first, last, in_hand)
+    omega (arith, all, outer, inner, first, last, in_hand)
   where
-    of_hand : (o : Option Hand) →
-        length (pieces_in_hand (option_map (in_hand_of x.phase) o)) ≡ length (option_to_list (option_map (λ (h : Hand). h.command) o))
+    of_hand : (o : Option Hand) → length (pieces_held o) ≡ length (option_to_list (option_map (λ (h : Hand). h.command) o))
     of_hand None = refl
     of_hand (Some hand) = refl
 
@@ -89,13 +92,15 @@ any_parts test (x ∷ xs) ys none =
     (ap (λ (b : Bool). b || list_any test xs) parts.0 ∙ rest.0, rest.1)
 
 -- a piece that is not outstanding is none of a command of the queues
-pub none_in_queue : (x : Process) (piece : ℕ) → x.queue.in_hand ≡ option_to_list (option_map (λ (h : Hand). h.command) x.hand) →
-    list_any (nat_eq piece) (outstanding (progress_shown None x)) ≡ false → outstanding_of x.queue piece ≡ 0
-none_in_queue x piece taken none =
+pub none_in_queue : {P : Type 0} (x : Process P) (held : Option ℕ) (phase : Option Phase) (piece : ℕ) →
+    x.queue.in_hand ≡ option_to_list (option_map (λ (h : Hand). h.command) x.hand) →
+    list_any (nat_eq piece) (outstanding (progress_shown held phase x)) ≡ false → outstanding_of x.queue piece ≡ 0
+none_in_queue x held phase piece taken none =
     let done : List ℕ = map (λ (c : Completed). c.piece) (map completed_of x.queue.completed) in
-    let hand : List ℕ = pieces_in_hand (option_map (in_hand_of x.phase) x.hand) in
-    let rest : List ℕ = map (λ (c : Command). c.piece) x.queue.submitted in
-    let outer = any_parts (nat_eq piece) (done ++ hand) rest none in
+    let hand : List ℕ = pieces_held x.hand in
+    let rest : List ℕ = pieces_of_commands x.queue.submitted in
+    let outer = any_parts (nat_eq piece) (done ++ hand) rest
+    (ap (λ (l : List ℕ). list_any (nat_eq piece) l) (sym (outstanding_shown held phase x)) ∙ none) in
     let inner = any_parts (nat_eq piece) done hand outer.0 in
     let last = none_counted (λ (c : Command). c.piece) piece x.queue.submitted outer.1 in
     let first = none_counted (λ (d : Done). d.piece) piece x.queue.completed (done_pieces x.queue.completed inner.0) in
@@ -110,7 +115,7 @@ none_in_queue x piece taken none =
         ap (λ (b : Bool). b || list_any (nat_eq piece) (map (λ (d : Done). d.piece) done)) parts.0 ∙ done_pieces done parts.1
 
     of_hand : (o : Option Hand) (commands : List Command) → commands ≡ option_to_list (option_map (λ (h : Hand). h.command) o) →
-        list_any (nat_eq piece) (pieces_in_hand (option_map (in_hand_of x.phase) o)) ≡ false →
+        list_any (nat_eq piece) (pieces_held o) ≡ false →
         count_by (λ (c : Command). c.piece == piece) commands ≡ 0
     of_hand None commands is none = ap (λ (l : List Command). count_by (λ (c : Command). c.piece == piece) l) is
     of_hand (Some hand) commands is none =
@@ -118,6 +123,7 @@ none_in_queue x piece taken none =
         ∙ none_counted (λ (c : Command). c.piece) piece (hand.command ∷ []) none
 
 -- as many commands are outstanding there
-pub queue_count : (x : Process) (held : Option ℕ) → x.queue.in_hand ≡ option_to_list (option_map (λ (h : Hand). h.command) x.hand) →
-    queues.outstanding x.queue ≡ length (outstanding (progress_shown held x))
-queue_count x held taken = sym (length_outstanding x taken)
+pub queue_count : {P : Type 0} (x : Process P) (held : Option ℕ) (phase : Option Phase) →
+    x.queue.in_hand ≡ option_to_list (option_map (λ (h : Hand). h.command) x.hand) →
+    queues.outstanding x.queue ≡ length (outstanding (progress_shown held phase x))
+queue_count x held phase taken = sym (length_outstanding x held phase taken)

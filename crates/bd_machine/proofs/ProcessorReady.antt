@@ -24,18 +24,22 @@ use Rattle.bd_turns.specs.declared.turn.Row.{Row}
 use Rattle.bd_turns.specs.Reached.{IsReached}
 use Rattle.bd_turns.specs.State.{State}
 use Rattle.bd_turns.specs.Turns.{holds_after}
+use Rattle.bd_tables.specs.declared.sides.Tables as sides
 
 -- a process of the parts, of whose running call this is kept and which does this next
-pub record Ready (script : Script) (x : Parts) (m : State) (process : ℕ) (y : Process) (c : kernel.Progress) (act : Act) : Type 0 where
+pub record Ready {T M P : Type 0} (K : sides.Ghosts T P) (script : Script) (x : Parts T M P) (m : State) (process : ℕ) (y : Process P)
+    (c : kernel.Progress) (act : Act) :
+    Type 0 where
   pub v : Volume
   pub reached : IsReached v m
   pub acts : ActsHere m process act
-  pub here : RunsHere script x m (place_for m process acts.call acts.before) y c
+  pub here : RunsHere K script x m (place_for m process acts.call acts.before) y c
 
 -- so it is once there is room in the log
-pub ready_for : (script : Script) (x : Parts) (m : State) (process i : ℕ) (y : Process) (c : kernel.Progress) (act : Act) (log : LogState) →
-    IsAt script x m → HasBegun x process → IsNextAct m process act → i ≡ process → y ≡ get_or x.processes.items i y → y.call ≡ Some c →
-    log.entries ≡ x.log.entries → Ready script (record x { log = log }) m process y c act
+pub ready_for : {T M P : Type 0} {K : sides.Ghosts T P} (script : Script) (x : Parts T M P) (m : State) (process i : ℕ) (y : Process P)
+    (c : kernel.Progress) (act : Act) (log : LogState) →
+    IsAt K script x m → HasBegun x process → IsNextAct m process act → i ≡ process → y ≡ get_or x.processes.items i y → y.call ≡ Some c →
+    log.entries ≡ x.log.entries → Ready K script (record x { log = log }) m process y c act
 ready_for script x m process i y c act log is begun next same read call entries =
     let acts = acts_here m process act next in
     record {
@@ -51,13 +55,14 @@ ready_for script x m process i y c act log is begun next same read call entries 
     }
 
 -- the process that is read has begun its call
-pub call_begun : (x : Parts) (process i : ℕ) (y : Process) → HasBegun x process → i ≡ process → y ≡ get_or x.processes.items i y →
+pub call_begun : {T M P : Type 0} (x : Parts T M P) (process i : ℕ) (y : Process P) → HasBegun x process → i ≡ process → y ≡ get_or x.processes.items i y →
     is_some (y.call) ≡ true
-call_begun x process i y begun same read =
+call_begun {P = P} x process i y begun same read =
     let there = process_read x process i y same (begun_there x process begun) read in
-    subst (λ (z : Process). is_some z.call ≡ true) (same_Some begun.it y (sym begun.there ∙ there)) begun.begun
+    subst (λ (z : Process P). is_some z.call ≡ true) (same_Some begun.it y (sym begun.there ∙ there)) begun.begun
 
-module _ (script : Script) (x : Parts) (m : State) (process : ℕ) (y : Process) (c : kernel.Progress) (act : Act) (r : Ready script x m process y c act) where
+module _ {T M P : Type 0} {K : sides.Ghosts T P} (script : Script) (x : Parts T M P) (m : State) (process : ℕ) (y : Process P)
+    (c : kernel.Progress) (act : Act) (r : Ready K script x m process y c act) where
   -- the place of its running call
   abbrev pub place : Place
   place = place_for m process r.acts.call r.acts.before
@@ -84,15 +89,17 @@ module _ (script : Script) (x : Parts) (m : State) (process : ℕ) (y : Process)
       ∙ ap (λ (k : Call). cond (holds_after place.call by) (of k) None) mine.call
 
 -- the running call is one of the script, before it is read what is kept of it
-pub called_next : (script : Script) (x : Parts) (m : State) (process : ℕ) (act : Act) (at : At) → IsAt script x m → HasBegun x process →
-    IsNextAct m process act → ((y : Process) → process_in x process ≡ Some y → at ≡ record { process = process; call = y.ended }) →
+pub called_next : {T M P : Type 0} {K : sides.Ghosts T P} (script : Script) (x : Parts T M P) (m : State) (process : ℕ) (act : Act) (at : At) →
+    IsAt K script x m → HasBegun x process →
+    IsNextAct m process act → ((y : Process P) → process_in x process ≡ Some y → at ≡ record { process = process; call = y.ended }) →
     is_some (call_at script at) ≡ true
 called_next script x m process act at is begun next reads =
     let called = called_at script x m process begun.it next.place at is.shows begun.there next.running_is (reads begun.it begun.there) in
     ap (λ (o : Option Call). is_some o) called.0
 
 -- a process that has begun a call is one of the script
-pub in_script : (script : Script) (x : Parts) (m : State) (process : ℕ) → IsAt script x m → HasBegun x process → process < length script.processes
+pub in_script : {T M P : Type 0} {K : sides.Ghosts T P} (script : Script) (x : Parts T M P) (m : State) (process : ℕ) → IsAt K script x m →
+    HasBegun x process → process < length script.processes
 in_script script x m process is begun =
     let below = begun_there x process begun in
     omega (arith, below, is.shows.count)

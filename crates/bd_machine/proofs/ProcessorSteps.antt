@@ -18,6 +18,7 @@ use Rattle.bd_machine.specs.Turns.{HasBegun, OthersStay, process_in}
 use Rattle.bd_machine.proofs.Showing.{OneSteps, one_steps}
 use Rattle.bd_turns.specs.State.{Progress, State, progress_of, running, with_progress}
 use Rattle.bd_turns.proofs.DoneTurns.{progress_of-other}
+use Rattle.bd_tables.specs.declared.sides.Tables as sides
 
 -- ---- lists in which one element is another
 
@@ -49,10 +50,10 @@ running_kept m n process script journal ended = λ i. running_from (script i) (j
 -- ---- one process is another
 
 -- the parts with this in the place of a process
-abbrev pub with_process : Parts → ℕ → Process → Parts
+abbrev pub with_process : {T M P : Type 0} → Parts T M P → ℕ → Process P → Parts T M P
 with_process x process new = record x { processes = with_item x.processes process new }
 
-module _ (x : Parts) (process : ℕ) (old new : Process) (there : process_in x process ≡ Some old) where
+module _ {T M P : Type 0} (x : Parts T M P) (process : ℕ) (old new : Process P) (there : process_in x process ≡ Some old) where
   others_stay : OthersStay x (with_process x process new) process
   others_stay = record {
     count = length-set x.processes.items process new;
@@ -67,13 +68,13 @@ module _ (x : Parts) (process : ℕ) (old new : Process) (there : process_in x p
   begun_now begun = record { it = new; there = takes_place; begun = begun }
 
   -- the parts show the state with this progress of the process, where that is where the process is
-  pub own_step : (script : Script) (m : State) (progress : Progress) → Shows script x m →
-      IsProcessAt (with_progress m process progress) (slice_index_or x.disk.held process None) x.tables process new →
-      Shows script (with_process x process new) (with_progress m process progress)
-  own_step script m progress shows at =
+  pub own_step : {K : sides.Ghosts T P} (script : Script) (m : State) (progress : Progress) → Shows K script x m →
+      IsProcessAt K (with_progress m process progress) (slice_index_or x.disk.held process None) x.tables process new →
+      Shows K script (with_process x process new) (with_progress m process progress)
+  own_step {K} script m progress shows at =
       let y = with_process x process new in
       let n = with_progress m process progress in
-      let steps : OneSteps x y m n process =
+      let steps : OneSteps K x y m n process =
       record {
         state = record {
           script = refl;
@@ -84,23 +85,23 @@ module _ (x : Parts) (process : ℕ) (old new : Process) (there : process_in x p
           entries = λ at differ. refl;
         };
         parts = others_stay;
-        passes = record { lent = λ pass differ is. is; here = λ other differ is. is };
+        passes = record { lent = λ pass differ is. is; here = λ other differ is. is; going = λ apart. apart };
         holds = record { count = refl; others = λ other differ. refl };
         disk = shows.disk;
         journal = shows.journal;
         tables = shows.tables;
         mine = λ z is.
-            subst (IsProcessAt n (slice_index_or x.disk.held process None) x.tables process)
+            subst (IsProcessAt K n (slice_index_or x.disk.held process None) x.tables process)
             (same_Some new z (sym takes_place ∙ is)) at;
       } in
       one_steps script x y m n process shows steps
 
   -- so they show the same state, where the process stays where it is
-  pub same_step : (script : Script) (m : State) → Shows script x m →
-      IsProcessAt m (slice_index_or x.disk.held process None) x.tables process new → Shows script (with_process x process new) m
-  same_step script m shows at =
+  pub same_step : {K : sides.Ghosts T P} (script : Script) (m : State) → Shows K script x m →
+      IsProcessAt K m (slice_index_or x.disk.held process None) x.tables process new → Shows K script (with_process x process new) m
+  same_step {K} script m shows at =
       let y = with_process x process new in
-      let steps : OneSteps x y m m process =
+      let steps : OneSteps K x y m m process =
       record {
         state = record {
           script = refl;
@@ -111,13 +112,13 @@ module _ (x : Parts) (process : ℕ) (old new : Process) (there : process_in x p
           entries = λ at differ. refl;
         };
         parts = others_stay;
-        passes = record { lent = λ pass differ is. is; here = λ other differ is. is };
+        passes = record { lent = λ pass differ is. is; here = λ other differ is. is; going = λ apart. apart };
         holds = record { count = refl; others = λ other differ. refl };
         disk = shows.disk;
         journal = shows.journal;
         tables = shows.tables;
         mine = λ z is.
-            subst (IsProcessAt m (slice_index_or x.disk.held process None) x.tables process)
+            subst (IsProcessAt K m (slice_index_or x.disk.held process None) x.tables process)
             (same_Some new z (sym takes_place ∙ is)) at;
       } in
       one_steps script x y m m process shows steps

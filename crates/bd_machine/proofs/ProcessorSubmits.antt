@@ -12,7 +12,7 @@ use Rattle.bd_entry.specs.Calls.{Place}
 use Rattle.bd_kernel.specs.Turns as kernel
 use Rattle.bd_machine.specs.declared.parts.Parts.{Parts}
 use Rattle.bd_machine.specs.declared.process.Process.{Process}
-use Rattle.bd_machine.specs.Shows.{IsCommandOf, Shows, completed_of, progress_shown}
+use Rattle.bd_machine.specs.Shows.{IsCommandOf, IsProcessAt, Shows, completed_of, progress_shown}
 use Rattle.bd_machine.specs.Turns.{AreFew, EndsTurn, HasBegun, TookTurn, process_in}
 use Rattle.bd_machine.proofs.ProcessorCommands.{HasRoom, RunsHere, has_room, outstanding_kept, polled_at, still_runs, submitted_at}
 use Rattle.bd_machine.proofs.ProcessorEnds.{none_later, took_did}
@@ -32,9 +32,11 @@ use Rattle.bd_turns.specs.State.{Completed, Progress, State, holder_of, outstand
 use Rattle.bd_turns.specs.Turns.{after_polling, after_submitting}
 use Rattle.bd_turns.proofs.CommandSteps.{polled, with_submitted}
 use Rattle.bd_turns.proofs.DoneTurns.{progress_of-set}
+use Rattle.bd_tables.specs.declared.sides.Tables as sides
 
 -- the process's progress is there
-pub there_is : (script : Script) (x : Parts) (m : State) (process : ℕ) (y : Process) → Shows script x m → process_in x process ≡ Some y →
+pub there_is : {T M P : Type 0} {K : sides.Ghosts T P} (script : Script) (x : Parts T M P) (m : State) (process : ℕ) (y : Process P) → Shows K script x m →
+    process_in x process ≡ Some y →
     process < length m.processes
 there_is script x m process y shows there =
     let within = slice_get_within x.processes.items process y there in
@@ -69,7 +71,8 @@ least_is (x ∷ xs) least among low =
 
 -- ---- a submission
 
-module _ (script : Script) (x : Parts) (m : State) (v : Volume) (p : Place) (y : Process) (c : kernel.Progress) (here : RunsHere script x m p y c)
+module _ {T M P : Type 0} {K : sides.Ghosts T P} (script : Script) (x : Parts T M P) (m : State) (v : Volume) (p : Place) (y : Process P)
+    (c : kernel.Progress) (here : RunsHere K script x m p y c)
     (reached : IsReached v m) (piece : ℕ) (next : next_act m.store (holder_of m) (running_of m p) ≡ Some (acts.Submit piece)) where
   pub acting_submits : next_action m p ≡ Some (processors.Submits piece)
   acting_submits = ap (option_and_then (action_for m p)) next
@@ -80,7 +83,7 @@ module _ (script : Script) (x : Parts) (m : State) (v : Volume) (p : Place) (y :
   module _ (command : Command) (q : Queues) (d : kernel.Progress)
       (queue : q ≡ record y.queue { submitted = y.queue.submitted ++ command ∷ [] })
       (call : d ≡ record c { outstanding = c.outstanding ++ piece ∷ [] }) (of : IsCommandOf p command) (is : command.piece ≡ piece) where
-    abbrev moved : Parts
+    abbrev moved : Parts T M P
     moved = with_process x p.at.process (record y { queue = q; call = Some d })
 
     abbrev state : State
@@ -89,7 +92,7 @@ module _ (script : Script) (x : Parts) (m : State) (v : Volume) (p : Place) (y :
     there : p.at.process < length m.processes
     there = there_is script x m p.at.process y here.shows here.there
 
-    pub shows_submitted : Shows script moved state
+    pub shows_submitted : Shows K script moved state
     shows_submitted =
         own_step x p.at.process y (record y { queue = q; call = Some d }) here.there script m (with_submitted (progress_of m p.at.process) piece)
         here.shows (submitted_at script x m p y c here there piece command q d queue call of is)
@@ -108,8 +111,8 @@ module _ (script : Script) (x : Parts) (m : State) (v : Volume) (p : Place) (y :
     pub begun_submitted : HasBegun moved p.at.process
     begun_submitted = begun_now x p.at.process y (record y { queue = q; call = Some d }) here.there refl
 
-    pub took_submit : (old new : Parts) → x.log.events ≡ old.log.events → x.log.turns ≡ old.log.turns →
-        EndsTurn moved new p.at.process p.at.process rows.Submit → TookTurn script old new m p.at.process (Did rows.Submit)
+    pub took_submit : (old new : Parts T M P) → x.log.events ≡ old.log.events → x.log.turns ≡ old.log.turns →
+        EndsTurn moved new p.at.process p.at.process rows.Submit → TookTurn K script old new m p.at.process (Did rows.Submit)
     took_submit old new events turns ends =
         took_did script old moved new m p.at.process rows.Submit (after_submitting m p piece) []
         (end_step script moved new state p p.before p.at.process rows.Submit shows_submitted
@@ -119,7 +122,8 @@ module _ (script : Script) (x : Parts) (m : State) (v : Volume) (p : Place) (y :
 
 -- ---- a completion
 
-module _ (script : Script) (x : Parts) (m : State) (v : Volume) (p : Place) (y : Process) (c : kernel.Progress) (here : RunsHere script x m p y c)
+module _ {T M P : Type 0} {K : sides.Ghosts T P} (script : Script) (x : Parts T M P) (m : State) (v : Volume) (p : Place) (y : Process P)
+    (c : kernel.Progress) (here : RunsHere K script x m p y c)
     (reached : IsReached v m) (next : next_act m.store (holder_of m) (running_of m p) ≡ Some acts.Poll) where
   acting_polls : (done : List Completed) → (progress_of m p.at.process).completed ≡ done → (action : Action) →
       cond (is_none_of done) (processors.WaitsFor (waits.Completion (least_outstanding (outstanding (progress_of m p.at.process))))) processors.Polls
@@ -132,20 +136,23 @@ module _ (script : Script) (x : Parts) (m : State) (v : Volume) (p : Place) (y :
       is
       ∙ ap Some for
 
-  shown : progress_of m p.at.process ≡ progress_shown (slice_index_or x.disk.held p.at.process None) y
-  shown = (here.shows.each p.at.process y here.there).progress
+  at_y : IsProcessAt K m (slice_index_or x.disk.held p.at.process None) x.tables p.at.process y
+  at_y = here.shows.each p.at.process y here.there
+
+  shown : progress_of m p.at.process ≡ progress_shown (slice_index_or x.disk.held p.at.process None) at_y.phase y
+  shown = at_y.progress
 
   -- where no completion has come the turn waits
-  pub took_no_completion : (old : Parts) (least : ℕ) → y.queue.completed ≡ [] → x.log.events ≡ old.log.events → x.log.turns ≡ old.log.turns →
+  pub took_no_completion : (old : Parts T M P) (least : ℕ) → y.queue.completed ≡ [] → x.log.events ≡ old.log.events → x.log.turns ≡ old.log.turns →
       Contains c.outstanding least → All (λ piece. least ≤ piece) c.outstanding →
-      TookTurn script old x m p.at.process (Waits (waits.Completion least))
+      TookTurn K script old x m p.at.process (Waits (waits.Completion least))
   took_no_completion old least none events turns among low =
       let empty : (progress_of m p.at.process).completed ≡ [] =
       ap (λ (g : Progress). g.completed) shown ∙ ap (λ (l : List Done). map completed_of l) none in
       let mine : c.outstanding ≡ outstanding (progress_of m p.at.process) = outstanding_kept script x m p y c here in
       let is : least ≡ least_outstanding (outstanding (progress_of m p.at.process)) =
       least_is c.outstanding least among low ∙ ap (λ (l : List ℕ). least_outstanding l) mine in
-      subst (λ (n : ℕ). TookTurn script old x m p.at.process (Waits (waits.Completion n))) (sym is)
+      subst (λ (n : ℕ). TookTurn K script old x m p.at.process (Waits (waits.Completion n))) (sym is)
       (took_wait script old x m p.at.process (waits.Completion (least_outstanding (outstanding (progress_of m p.at.process)))) here.shows
       (outcome_for m p.at.process p
       (processors.WaitsFor (waits.Completion (least_outstanding (outstanding (progress_of m p.at.process))))) here.runs
@@ -167,7 +174,7 @@ module _ (script : Script) (x : Parts) (m : State) (v : Volume) (p : Place) (y :
   module _ (done : Done) (q : Queues) (d : kernel.Progress) (first : y.queue.completed ≡ done ∷ q.completed)
       (submitted : q.submitted ≡ y.queue.submitted) (in_hand : q.in_hand ≡ y.queue.in_hand)
       (call : d ≡ record c { outstanding = drop 1 c.outstanding }) where
-    abbrev polled_parts : Parts
+    abbrev polled_parts : Parts T M P
     polled_parts = with_process x p.at.process (record y { queue = q; call = Some d })
 
     abbrev polled_state : State
@@ -176,7 +183,7 @@ module _ (script : Script) (x : Parts) (m : State) (v : Volume) (p : Place) (y :
     polls_there : p.at.process < length m.processes
     polls_there = there_is script x m p.at.process y here.shows here.there
 
-    pub shows_polled : Shows script polled_parts polled_state
+    pub shows_polled : Shows K script polled_parts polled_state
     shows_polled =
         own_step x p.at.process y (record y { queue = q; call = Some d }) here.there script m (polled (progress_of m p.at.process))
         here.shows (polled_at script x m p y c here polls_there done q d first submitted in_hand call)
@@ -194,8 +201,8 @@ module _ (script : Script) (x : Parts) (m : State) (v : Volume) (p : Place) (y :
     pub begun_polled : HasBegun polled_parts p.at.process
     begun_polled = begun_now x p.at.process y (record y { queue = q; call = Some d }) here.there refl
 
-    pub took_poll : (old new : Parts) → x.log.events ≡ old.log.events → x.log.turns ≡ old.log.turns →
-        EndsTurn polled_parts new p.at.process p.at.process rows.Poll → TookTurn script old new m p.at.process (Did rows.Poll)
+    pub took_poll : (old new : Parts T M P) → x.log.events ≡ old.log.events → x.log.turns ≡ old.log.turns →
+        EndsTurn polled_parts new p.at.process p.at.process rows.Poll → TookTurn K script old new m p.at.process (Did rows.Poll)
     took_poll old new events turns ends =
         let is : (progress_of m p.at.process).completed ≡ completed_of done ∷ map completed_of q.completed =
         ap (λ (g : Progress). g.completed) shown ∙ ap (λ (l : List Done). map completed_of l) first in

@@ -1,5 +1,5 @@
 -- What a running call that was not begun waits for.
-use Rattle.std.proofs.Common.{◌≡◌, ℕ, List, [], Option, None, Some, sym, ap, ◌∙◌, subst}
+use Rattle.std.proofs.Common.{◌≡◌, ℕ, [], Option, None, Some, sym, ap, ◌∙◌, subst}
 use Rattle.std.specs.Prelude.{IfSome}
 use Rattle.std.specs.Option.{option_and_then}
 use Rattle.bd_base.specs.declared.script.Call.{Call}
@@ -22,18 +22,19 @@ use Rattle.bd_machine.proofs.ProcessorFacts.{outcome_for}
 use Rattle.bd_machine.proofs.ProcessorHolds.{holder_shown}
 use Rattle.bd_machine.proofs.ProcessorNext.{store_shown}
 use Rattle.bd_turns.specs.declared.turn.Wait.{Wait}
-use Rattle.bd_turns.specs.declared.turn.Wait.TheVariants as kinds
 use Rattle.bd_turns.specs.Processors.{WaitsFor, action_for, running_of}
 use Rattle.bd_turns.specs.State.{State, holder_of, running}
 use Rattle.bd_turns.specs.Turns.{Waiting, outcome_of}
 use Rattle.bd_turns.proofs.Cases.{running_process}
+use Rattle.bd_tables.specs.declared.sides.Tables as sides
 
 -- the turn of a wait for the holder of a file waits
 action_waits : (m : State) (p : Place) (act : Act) (wait : Wait) → IsWaitFor act wait → action_for m p act ≡ Some (WaitsFor wait)
 action_waits m p (acts.Busy file holder) wait for = ap (λ (w : Wait). Some (WaitsFor w)) (sym for)
 action_waits m p act wait for = absurd for
 
-module _ (script : Script) (x : Parts) (m : State) (process : ℕ) (p : Place) (y : Process) (shows : Shows script x m)
+module _ {T M P : Type 0} {K : sides.Ghosts T P} (script : Script) (x : Parts T M P) (m : State) (process : ℕ) (p : Place) (y : Process P)
+    (shows : Shows K script x m)
     (runs : running m process ≡ Some p) (there : process_in x process ≡ Some y) (none : y.call ≡ None) where
   -- what it does first as its parts say is what it does in the state that they show
   first_shown : (call : Call) (uid : ℕ) (fs : Files) (table : Table) (answer : Option Act) → call ≡ p.call → user_of m.store process ≡ uid →

@@ -3,6 +3,7 @@ use Rattle.std.proofs.Common.{◌≡◌, ℕ, true, false, List, [], ◌∷◌, 
 use Rattle.std.specs.Prelude.{slice_index_or, All}
 use Rattle.std.specs.Option.{option_map}
 use Rattle.std.proofs.lemmas.List.Elements.{All-weaker}
+use Rattle.std.proofs.lemmas.Bool.{false≢true}
 use Rattle.std.proofs.lemmas.Option.{none-some, same_Some}
 use Rattle.bd_base.specs.declared.journal.At.{At}
 use Rattle.bd_base.specs.declared.script.Call.{Call}
@@ -20,22 +21,21 @@ use Rattle.bd_kernel.specs.Turns as kernel
 use Rattle.bd_machine.specs.declared.parts.Parts.{Parts}
 use Rattle.bd_machine.specs.declared.process.Hand.{Hand}
 use Rattle.bd_machine.specs.declared.process.Process.{Process}
-use Rattle.bd_machine.specs.Shows.{IsCallAt, IsCallKept, IsCommandOf, IsHandOf, IsProcessAt, Shows, does_walk, in_hand_of, phase_of, progress_shown}
+use Rattle.bd_machine.specs.Shows.{IsCallAt, IsCallKept, IsCommandOf, IsHandOf, IsProcessAt, Shows, hand_shown, in_hand_of, progress_shown, tells}
 use Rattle.bd_machine.specs.Turns.{HasBegun, NotesEntry, after_noting, process_in}
 use Rattle.bd_machine.proofs.ShowingEntries.{command_more, hand_more, with_one_more}
-use Rattle.bd_machine.proofs.ShowingKept.{pass_kept}
+use Rattle.bd_machine.proofs.ShowingKept.{engine_kept, engine_of_same}
 use Rattle.bd_machine.proofs.ShowingSteps.{one_steps}
 use Rattle.bd_machine.proofs.ShowingUsers.{effect_of-uids}
-use Rattle.bd_tables.specs.Passes.{IsLent}
-use Rattle.bd_tables.specs.Plain.{LiesHere, PlainState, tables_of}
 use Rattle.bd_turns.proofs.RunningPlaces.{runs_at}
 use Rattle.bd_turns.specs.Sound.{has_told}
-use Rattle.bd_turns.specs.State.{InHand, Progress, State, place_of, progress_of, running}
+use Rattle.bd_turns.specs.State.{InHand, Phase, Progress, State, place_of, progress_of, running}
 use Rattle.bd_turns.specs.Turns.{with_entry}
+use Rattle.bd_tables.specs.declared.sides.Tables as sides
 
 -- the entry was added by the running call at this place: its own change was made, the call took note of it, and it
 -- stands in the journal
-pub record AddsEntry (x y : Parts) (p : Place) (m : State) (e : Entry) : Type 0 where
+pub record AddsEntry {T M P : Type 0} (x y : Parts T M P) (p : Place) (m : State) (e : Entry) : Type 0 where
   pub changed : DiskState
   pub changed_is : IsDiskOf changed (after_change m.store e)
   pub held : changed.held ≡ x.disk.held
@@ -63,8 +63,8 @@ entry_running m p e of_place =
     ∙ ap (option_map (place_of (with_entry m p.call e p.at) p.at)) runs.called
     ∙ ap (λ (before : List Entry). Some (record { call = p.call; at = p.at; before = before })) joined
 
-module _ (script : Script) (x y : Parts) (m : State) (p : Place) (e : Entry)
-    (shows : Shows script x m) (begun : HasBegun x p.at.process) (of_place : IsOf m p e) (adds : AddsEntry x y p m e) where
+module _ {T M P : Type 0} {K : sides.Ghosts T P} (script : Script) (x y : Parts T M P) (m : State) (p : Place) (e : Entry)
+    (shows : Shows K script x m) (begun : HasBegun x p.at.process) (of_place : IsOf m p e) (adds : AddsEntry x y p m e) where
   abbrev process : ℕ
   process = p.at.process
 
@@ -74,10 +74,10 @@ module _ (script : Script) (x y : Parts) (m : State) (p : Place) (e : Entry)
   same_holds : y.disk.held ≡ x.disk.held
   same_holds = adds.noted.held ∙ adds.held
 
-  abbrev it : Process
+  abbrev it : Process P
   it = begun.it
 
-  at_it : IsProcessAt m (slice_index_or x.disk.held process None) x.tables process it
+  at_it : IsProcessAt K m (slice_index_or x.disk.held process None) x.tables process it
   at_it = shows.each process it begun.there
 
   -- what was kept of the call before
@@ -113,10 +113,14 @@ module _ (script : Script) (x y : Parts) (m : State) (p : Place) (e : Entry)
   runs_on : (q : Place) → running n process ≡ Some q → with_one_more p e ≡ q
   runs_on q runs = same_Some (with_one_more p e) q (sym (entry_running m p e of_place) ∙ runs)
 
-  told : (h : Hand) → it.hand ≡ Some h → has_told (phase_of it.phase) ≡ true → is_miss_of h.command.piece e ≡ false
-  told h there tells =
-      of_place.told (in_hand_of it.phase h)
-      (ap (λ (g : Progress). g.hand) at_it.progress ∙ ap (option_map (in_hand_of it.phase)) there) tells
+  told : (h : Hand) → it.hand ≡ Some h → (phase : Option Phase) → at_it.phase ≡ phase → tells phase ≡ true →
+      is_miss_of h.command.piece e ≡ false
+  told h there None is is_told = absurd (false≢true is_told)
+  told h there (Some phase) is is_told =
+      of_place.told (in_hand_of h phase)
+      (ap (λ (g : Progress). g.hand) at_it.progress
+      ∙ ap (λ (o : Option Hand). hand_shown at_it.phase o) there ∙ ap (λ (o : Option Phase). hand_shown o (Some h)) is)
+      is_told
 
   kept_on : IsCallKept n (with_one_more p e) d
   kept_on =
@@ -131,12 +135,13 @@ module _ (script : Script) (x y : Parts) (m : State) (p : Place) (e : Entry)
         outstanding = noted.3 ∙ kept.outstanding;
       }
 
-  here : IsProcessAt n (slice_index_or y.disk.held process None) y.tables process (record it { call = Some d })
+  here : IsProcessAt K n (slice_index_or y.disk.held process None) y.tables process (record it { call = Some d })
   here =
       record {
+        phase = at_it.phase;
         progress =
             at_it.progress
-            ∙ ap (λ (held : List (Option ℕ)). progress_shown (slice_index_or held process None) it) (sym same_holds);
+            ∙ ap (λ (held : List (Option ℕ)). progress_shown (slice_index_or held process None) at_it.phase it) (sym same_holds);
         call = λ q runs. subst (λ (r : Place). IsCallKept n r d) (runs_on q runs) kept_on;
         none = λ none. absurd (none-some (with_one_more p e) (sym none ∙ entry_running m p e of_place));
         submitted = λ q runs.
@@ -145,24 +150,26 @@ module _ (script : Script) (x y : Parts) (m : State) (p : Place) (e : Entry)
             (at_it.submitted p of_place.running_is));
         taken = at_it.taken;
         hand = λ q h runs there.
-            subst (λ (r : Place). IsHandOf r it.phase h) (runs_on q runs)
-            (hand_more p e it.phase h (told h there) (at_it.hand p h of_place.running_is there));
-        pass =
-            pass_kept x.tables y.tables process (does_walk it.phase it.hand) it.pass
+            subst (λ (r : Place). IsHandOf r at_it.phase h) (runs_on q runs)
+            (hand_more p e at_it.phase h (told h there at_it.phase refl) (at_it.hand p h of_place.running_is there));
+        engine =
+            engine_of_same {K = K} y.tables process at_it.phase it (record it { call = Some d }) refl refl refl
+            (engine_kept {K = K} x.tables y.tables process at_it.phase it
             (record {
-              lent = λ pass of lent. subst (λ (t : PlainState). IsLent t pass) (sym adds.noted.tables) lent;
-              here = λ lies. subst (λ (t : PlainState). LiesHere t.places process) (sym adds.noted.tables) lies;
+              lent = λ pass of lent. subst (λ (t : T). K.is_of t pass) (sym adds.noted.tables) lent;
+              here = λ lies. subst (λ (t : T). K.lies t process) (sym adds.noted.tables) lies;
+              going = λ apart. subst K.apart (sym adds.noted.tables) apart;
             })
-            at_it.pass;
+            at_it.engine);
       }
 
-  mine : (z : Process) → process_in y process ≡ Some z →
-      IsProcessAt n (slice_index_or y.disk.held process None) y.tables process z
+  mine : (z : Process P) → process_in y process ≡ Some z →
+      IsProcessAt K n (slice_index_or y.disk.held process None) y.tables process z
   mine z is =
-      subst (IsProcessAt n (slice_index_or y.disk.held process None) y.tables process)
+      subst (IsProcessAt K n (slice_index_or y.disk.held process None) y.tables process)
       (same_Some (record it { call = Some d }) z (sym noted.1 ∙ is)) here
 
-  pub entry_step : Shows script y (with_entry m p.call e p.at)
+  pub entry_step : Shows K script y (with_entry m p.call e p.at)
   entry_step =
       one_steps script x y m n process shows
       (record {
@@ -178,8 +185,9 @@ module _ (script : Script) (x y : Parts) (m : State) (p : Place) (e : Entry)
         };
         parts = record { count = adds.noted.others.count; others = adds.noted.others.others };
         passes = record {
-          lent = λ pass other lent. subst (λ (t : PlainState). IsLent t pass) (sym adds.noted.tables) lent;
-          here = λ other differ here. subst (λ (t : PlainState). LiesHere t.places other) (sym adds.noted.tables) here;
+          lent = λ pass other lent. subst (λ (t : T). K.is_of t pass) (sym adds.noted.tables) lent;
+          here = λ other differ here. subst (λ (t : T). K.lies t other) (sym adds.noted.tables) here;
+          going = λ apart. subst K.apart (sym adds.noted.tables) apart;
         };
         holds = record {
           count = ap (λ (held : List (Option ℕ)). length held) same_holds;
@@ -187,11 +195,11 @@ module _ (script : Script) (x y : Parts) (m : State) (p : Place) (e : Entry)
         };
         disk = disk;
         journal = ap (λ (all : List Entry). all ++ e ∷ []) shows.journal ∙ sym adds.entries;
-        tables = shows.tables ∙ ap tables_of (sym adds.noted.tables);
+        tables = subst (λ (t : T). K.shows t m.tables) (sym adds.noted.tables) shows.tables;
         mine = mine;
       })
 
-pub entry_begun : (x y : Parts) (m : State) (p : Place) (e : Entry) →
+pub entry_begun : {T M P : Type 0} (x y : Parts T M P) (m : State) (p : Place) (e : Entry) →
     HasBegun x p.at.process → AddsEntry x y p m e → HasBegun y p.at.process
 entry_begun x y m p e begun adds =
     let had = some_of begun.it.call begun.begun in

@@ -1,15 +1,14 @@
 -- A process of which no command is outstanding.
-use Rattle.std.proofs.Common.{◌≡◌, ℕ, List, [], ◌∷◌, ◌++◌, map, length, Option, None, Some, refl, ap, arith}
+use Rattle.std.proofs.Common.{◌≡◌, ℕ, List, [], ◌∷◌, ◌++◌, map, length, Option, None, Some, refl, sym, ap, ◌∙◌, arith}
 use Rattle.std.specs.Prelude.{nat_eq}
-use Rattle.std.specs.Option.{option_map}
 use Rattle.std.proofs.lemmas.Bool.{both_ways, ne_eqb}
 use Rattle.bd_entry.specs.Actions.{is_none_of}
 use Rattle.bd_machine.specs.declared.process.Hand.{Hand}
-use Rattle.bd_machine.specs.declared.process.Phase.{Phase}
 use Rattle.bd_machine.specs.declared.process.Process.{Process}
-use Rattle.bd_machine.specs.Shows.{completed_of, in_hand_of, pieces_of_commands, progress_shown}
+use Rattle.bd_machine.specs.Shows.{completed_of, pieces_of_commands, progress_shown}
+use Rattle.bd_machine.proofs.ShowingHands.{outstanding_shown, pieces_held}
 use Rattle.bd_queue_pair.specs.declared.command.Command.{Command}
-use Rattle.bd_turns.specs.State.{Completed, outstanding, pieces_in_hand}
+use Rattle.bd_turns.specs.State.{Completed, Phase, outstanding}
 
 -- a list has no element exactly where its length is zero
 pub none_is_empty : (xs : List ℕ) → nat_eq (length xs) 0 ≡ is_none_of xs
@@ -29,18 +28,19 @@ no_command : (commands : List Command) → pieces_of_commands commands ≡ [] �
 no_command [] is = refl
 no_command (c ∷ cs) is = absurd (cons-nil c.piece (pieces_of_commands cs) is)
 
-no_hand : (phase : Phase) (hand : Option Hand) → pieces_in_hand (option_map (in_hand_of phase) hand) ≡ [] → hand ≡ None
-no_hand phase None is = refl
-no_hand phase (Some hand) is = absurd (cons-nil hand.command.piece [] is)
+no_hand : (hand : Option Hand) → pieces_held hand ≡ [] → hand ≡ None
+no_hand None is = refl
+no_hand (Some hand) is = absurd (cons-nil hand.command.piece [] is)
 
 -- nothing is submitted, and nothing in the hand
-pub record HasNothing (z : Process) : Type 0 where
+pub record HasNothing {P : Type 0} (z : Process P) : Type 0 where
   pub hand : z.hand ≡ None
   pub submitted : z.queue.submitted ≡ []
 
-pub nothing_left : (held : Option ℕ) (z : Process) → outstanding (progress_shown held z) ≡ [] → HasNothing z
-nothing_left held z is =
+pub nothing_left : {P : Type 0} (held : Option ℕ) (phase : Option Phase) (z : Process P) →
+    outstanding (progress_shown held phase z) ≡ [] → HasNothing z
+nothing_left held phase z is =
     let front = map (λ (done : Completed). done.piece) (map completed_of z.queue.completed) in
     let parts =
-    parts_empty front (pieces_in_hand (option_map (in_hand_of z.phase) z.hand)) (pieces_of_commands z.queue.submitted) is in
-    record { hand = no_hand z.phase z.hand parts.0; submitted = no_command z.queue.submitted parts.1 }
+    parts_empty front (pieces_held z.hand) (pieces_of_commands z.queue.submitted) (sym (outstanding_shown held phase z) ∙ is) in
+    record { hand = no_hand z.hand parts.0; submitted = no_command z.queue.submitted parts.1 }

@@ -12,11 +12,12 @@ use Rattle.bd_entry.specs.Calls.{calls_of}
 use Rattle.bd_entry.specs.History.{InOrder}
 use Rattle.bd_machine.specs.declared.parts.Parts.{Parts}
 use Rattle.bd_machine.specs.declared.process.Process.{Process}
-use Rattle.bd_machine.specs.Kept.{IsKept, state_shown}
-use Rattle.bd_machine.specs.Machine.{IsFirstUnfinished}
+use Rattle.bd_machine.specs.Machine.{AreFinished, IsFirstUnfinished}
+use Rattle.bd_machine.specs.Turns.{IsAt}
 use Rattle.bd_turns.proofs.NeverStuck.{never_stuck}
 use Rattle.bd_turns.specs.State.{Progress, State, progress_of}
 use Rattle.bd_turns.specs.Turns.{SomeActorActs, all_ended}
+use Rattle.bd_tables.specs.declared.sides.Tables as sides
 
 -- a test that all numbers of a range pass
 all_in : (test : ℕ → Bool) (n a : ℕ) → ((k : ℕ) → a ≤ k → k < a + n → test k ≡ true) → list_all test (range_with_len a n) ≡ true
@@ -53,10 +54,7 @@ none_from None false is = absurd (false≢true is)
 none_from (Some x) true is = absurd (false≢true (sym is))
 none_from (Some x) false is = refl
 
-module _ (script : Script) (x : Parts) (kept : IsKept script x) where
-  abbrev m : State
-  m = state_shown script x
-
+module _ {T M P : Type 0} {K : sides.Ghosts T P} (script : Script) (x : Parts T M P) (m : State) (kept : IsAt K script x m) where
   abbrev count : ℕ
   count = length script.processes
 
@@ -64,7 +62,7 @@ module _ (script : Script) (x : Parts) (kept : IsKept script x) where
   HasEnded process = (progress_of m process).ended ≡ length (calls_of script process)
 
   -- how many calls of a process have ended
-  pub ended_is : (i : ℕ) (z : Process) → i < count → z ≡ get_or x.processes.items i z → (progress_of m i).ended ≡ z.ended
+  pub ended_is : (i : ℕ) (z : Process P) → i < count → z ≡ get_or x.processes.items i z → (progress_of m i).ended ≡ z.ended
   ended_is i z within is =
       ap (λ (g : Progress). g.ended)
       (kept.shows.each i z (element x.processes.items i z (subst (λ (k : ℕ). i < k) (sym kept.shows.count) within) is)).progress
@@ -78,21 +76,31 @@ module _ (script : Script) (x : Parts) (kept : IsKept script x) where
       ∙ ap (λ (list : List ScriptProcess). length (get_or list i p).calls) (sym are)
 
   most : (i : ℕ) → (progress_of m i).ended ≤ length (calls_of script i)
-  most i = kept.reached.1.sound.calls.processes.ended i
+  most i =
+      subst (λ (s : Script). (progress_of m i).ended ≤ length (calls_of s i)) kept.shows.script_is
+      (kept.reached.1.sound.calls.processes.ended i)
 
   -- a process that has no more calls left
   pub has_ended_at : (i : ℕ) → length (calls_of script i) ≤ (progress_of m i).ended → HasEnded i
   has_ended_at i least = let upper = most i in omega (arith, least, upper)
 
+  -- whether all calls of a script have ended
+  abbrev all_of : Script → Bool
+  all_of s =
+      list_all (λ process. nat_eq (progress_of m process).ended (length (calls_of s process)))
+      (range_with_len 0 (length s.processes))
+
   pub all_are : ((i : ℕ) → i < count → HasEnded i) → all_ended m ≡ true
   all_are each =
-      all_in (λ process. nat_eq (progress_of m process).ended (length (calls_of script process))) count 0
+      ap all_of kept.shows.script_is
+      ∙ all_in (λ process. nat_eq (progress_of m process).ended (length (calls_of script process))) count 0
       (λ k least within. eq-eqb (progress_of m k).ended (length (calls_of script k)) (each k (omega (arith, within))))
 
   pub each_has : all_ended m ≡ true → (i : ℕ) → i < count → HasEnded i
   each_has all i within =
       eqb-true (progress_of m i).ended (length (calls_of script i))
-      (one_in (λ process. nat_eq (progress_of m process).ended (length (calls_of script process))) count 0 all i (omega arith)
+      (one_in (λ process. nat_eq (progress_of m process).ended (length (calls_of script process))) count 0
+      (sym (ap all_of kept.shows.script_is) ∙ all) i (omega arith)
       (omega (arith, within)))
 
   -- where one has calls left, not all have ended
@@ -101,26 +109,33 @@ module _ (script : Script) (x : Parts) (kept : IsKept script x) where
       false_from_ne_true (all_ended m) (λ all. let same = each_has all i within in absurd (omega (arith, less, same)))
 
   -- and the first such process is the one of the first call that has not
-  pub first_is : (i : ℕ) (z : Process) → i < count → z ≡ get_or x.processes.items i z → z.ended < length (calls_of script i) →
+  pub first_is : (i : ℕ) (z : Process P) → i < count → z ≡ get_or x.processes.items i z → z.ended < length (calls_of script i) →
       ((j : ℕ) → j < i → HasEnded j) → IsFirstUnfinished m (record { process = i; call = z.ended })
   first_is i z within is less before =
       record {
-        process = within;
+        process = subst (λ (s : Script). i < length s.processes) (sym kept.shows.script_is) within;
         running_is = ap (λ (k : ℕ). record { process = i; call = k }) (sym (ended_is i z within is));
-        called = less;
-        earlier = before;
+        called = subst (λ (s : Script). z.ended < length (calls_of s i)) (sym kept.shows.script_is) less;
+        earlier = λ j lt.
+            subst (λ (s : Script). (progress_of m j).ended ≡ length (calls_of s j)) (sym kept.shows.script_is) (before j lt);
       }
 
   -- until all have ended some actor acts
   pub acts : all_ended m ≡ false → SomeActorActs m
   acts some = never_stuck kept.reached.0 m kept.reached.1 some
 
+  -- the calls that have ended are finished in the journal
+  pub are_finished : (i number : ℕ) → number ≡ (progress_of m i).ended → AreFinished m i number
+  are_finished i number is call lt =
+      kept.reached.1.sound.calls.in_turn.finished i call (subst (λ (k : ℕ). call < k) is lt)
+
   -- once all have, the journal is in order
-  pub in_order : all_ended m ≡ true → InOrder script x.log.entries
+  pub in_order : all_ended m ≡ true → InOrder m.script m.journal
   in_order all =
       record {
         so_far = kept.reached.1.history.in_order;
-        finished = λ process call lt.
+        finished = λ process call lt_there.
+            let lt = subst (λ (s : Script). call < length (calls_of s process)) kept.shows.script_is lt_there in
             kept.reached.1.sound.calls.in_turn.finished process call
             (⊎_elim {C = call < (progress_of m process).ended}
             (λ within. let same = each_has all process within in omega (arith, lt, same))

@@ -16,13 +16,11 @@ use Rattle.bd_kernel.specs.Disks.{DiskState}
 use Rattle.bd_kernel.specs.Turns as kernel
 use Rattle.bd_machine.specs.declared.parts.Parts.{Parts}
 use Rattle.bd_machine.specs.declared.process.Process.{Process}
-use Rattle.bd_machine.specs.Shows.{IsCallAt, IsCallKept, IsCommandOf, IsProcessAt, Shows, does_walk, progress_shown}
+use Rattle.bd_machine.specs.Shows.{IsCallAt, IsCallKept, IsCommandOf, IsProcessAt, Shows, progress_shown}
 use Rattle.bd_machine.specs.Turns.{EndsTurn, HasBegun, counted, held_after, process_in}
 use Rattle.bd_machine.proofs.ShowingCommands.{none_is_empty, nothing_left}
-use Rattle.bd_machine.proofs.ShowingKept.{KeepsPass, pass_kept, process_kept, running_kept}
+use Rattle.bd_machine.proofs.ShowingKept.{KeepsPass, engine_kept, engine_of_same, process_kept, running_kept}
 use Rattle.bd_machine.proofs.ShowingSteps.{KeepsHolds, one_steps}
-use Rattle.bd_tables.specs.Passes.{IsLent}
-use Rattle.bd_tables.specs.Plain.{LiesHere, PlainState, tables_of}
 use Rattle.bd_turns.specs.declared.turn.Row.{Row}
 use Rattle.bd_turns.proofs.Cases.{running_process}
 use Rattle.bd_turns.proofs.DoneTurns.{progress_of-other, progress_of-set}
@@ -30,10 +28,11 @@ use Rattle.bd_turns.proofs.KeptCalls.{ended_parts}
 use Rattle.bd_turns.proofs.RunningPlaces.{RunsAt, runs_at}
 use Rattle.bd_turns.specs.State.{Progress, State, has_ended, outstanding, progress_of, running}
 use Rattle.bd_turns.specs.Turns.{after_effect, with_call_ended, with_turn_used}
+use Rattle.bd_tables.specs.declared.sides.Tables as sides
 
 -- an effective turn was counted in the name of the running call, and the call ends where that was its last
-module _ (script : Script) (x y : Parts) (m : State) (p : Place) (before : List Entry) (actor : ℕ) (row : Row)
-    (shows : Shows script x m) (at_place : running m p.at.process ≡ Some (record p { before = before })) (begun : HasBegun x p.at.process)
+module _ {T M P : Type 0} {K : sides.Ghosts T P} (script : Script) (x y : Parts T M P) (m : State) (p : Place) (before : List Entry) (actor : ℕ) (row : Row)
+    (shows : Shows K script x m) (at_place : running m p.at.process ≡ Some (record p { before = before })) (begun : HasBegun x p.at.process)
     (no_later : entries_of (record { process = p.at.process; call = p.at.call + 1 }) m.journal ≡ [])
     (ends : EndsTurn x y p.at.process actor row) where
   abbrev process : ℕ
@@ -57,10 +56,10 @@ module _ (script : Script) (x y : Parts) (m : State) (p : Place) (before : List 
   runs : RunsAt m process at_end
   runs = runs_at m process at_end at_place
 
-  abbrev it : Process
+  abbrev it : Process P
   it = begun.it
 
-  at_it : IsProcessAt m (slice_index_or x.disk.held process None) x.tables process it
+  at_it : IsProcessAt K m (slice_index_or x.disk.held process None) x.tables process it
   at_it = shows.each process it begun.there
 
   abbrev had : (c : kernel.Progress) × (it.call ≡ Some c)
@@ -113,16 +112,17 @@ module _ (script : Script) (x y : Parts) (m : State) (p : Place) (before : List 
       subst (λ (held : List (Option ℕ)). KeepsHolds x.disk.held held process) (sym (held_at false is))
       (record { count = refl; others = λ other differ. refl })
 
-  passes : KeepsPass x.tables y.tables process
+  passes : KeepsPass K x.tables y.tables process
   passes =
       record {
-        lent = λ pass of lent. subst (λ (t : PlainState). IsLent t pass) (sym ends.tables) lent;
-        here = λ lies. subst (λ (t : PlainState). LiesHere t.places process) (sym ends.tables) lies;
+        lent = λ pass of lent. subst (λ (t : T). K.is_of t pass) (sym ends.tables) lent;
+        here = λ lies. subst (λ (t : T). K.lies t process) (sym ends.tables) lies;
+        going = λ apart. subst K.apart (sym ends.tables) apart;
       }
 
   -- the call goes on
   goes_on : last ≡ false →
-      IsProcessAt n (slice_index_or y.disk.held process None) y.tables process (record it { used = it.used + 1 })
+      IsProcessAt K n (slice_index_or y.disk.held process None) y.tables process (record it { used = it.used + 1 })
   goes_on is =
       let same : progress_of n process ≡ with_turn_used g =
       now ∙ cond-false ended (with_call_ended g) (with_turn_used g) (sym same_end ∙ is) in
@@ -133,17 +133,17 @@ module _ (script : Script) (x y : Parts) (m : State) (p : Place) (before : List 
         outstanding_is = ap outstanding same;
       })
       x.tables y.tables (slice_index_or x.disk.held process None) (slice_index_or y.disk.held process None) it
-      (it.used + 1)
+      (it.used + 1) at_it
       (same ∙ ap with_turn_used at_it.progress
-      ∙ ap (λ (held : List (Option ℕ)). progress_shown (slice_index_or held process None) (record it { used = it.used + 1 }))
+      ∙ ap (λ (held : List (Option ℕ)). progress_shown (slice_index_or held process None) at_it.phase (record it { used = it.used + 1 }))
       (sym (held_at false is)))
-      passes at_it
+      passes
 
-  abbrev over : Process
+  abbrev over : Process P
   over = record it { ended = it.ended + 1; used = 0; call = None }
 
   -- the call has ended
-  has_gone : last ≡ true → IsProcessAt n (slice_index_or y.disk.held process None) y.tables process over
+  has_gone : last ≡ true → IsProcessAt K n (slice_index_or y.disk.held process None) y.tables process over
   has_gone is =
       let same : progress_of n process ≡ with_call_ended g =
       now ∙ cond-true ended (with_call_ended g) (with_turn_used g) (sym same_end ∙ is) in
@@ -152,10 +152,11 @@ module _ (script : Script) (x y : Parts) (m : State) (p : Place) (before : List 
       ∙ get_or-set_same x.disk.held process None None (subst (λ (k : ℕ). process < k) (sym shows.holders) within) in
       let nothing : outstanding g ≡ [] =
       (ended_parts p.call (entries_of p.at m.journal) g (sym same_end ∙ is)).1 in
-      let empty = nothing_left (slice_index_or x.disk.held process None) it (sym (ap outstanding at_it.progress) ∙ nothing) in
+      let empty = nothing_left (slice_index_or x.disk.held process None) at_it.phase it (sym (ap outstanding at_it.progress) ∙ nothing) in
       record {
+        phase = at_it.phase;
         progress =
-            same ∙ ap with_call_ended at_it.progress ∙ ap (λ (h : Option ℕ). progress_shown h over) (sym none_held);
+            same ∙ ap with_call_ended at_it.progress ∙ ap (λ (h : Option ℕ). progress_shown h at_it.phase over) (sym none_held);
         call = λ q running_is.
             let next = runs_at n process q running_is in
             let here : q.at.process ≡ process = running_process n process q running_is in
@@ -172,20 +173,22 @@ module _ (script : Script) (x y : Parts) (m : State) (p : Place) (before : List 
         submitted = λ q running_is. subst (All (IsCommandOf q)) (sym empty.submitted) (All-nil (IsCommandOf q));
         taken = at_it.taken;
         hand = λ q h running_is there. absurd (none-some h (sym empty.hand ∙ there));
-        pass = pass_kept x.tables y.tables process (does_walk it.phase it.hand) it.pass passes at_it.pass;
+        engine =
+            engine_of_same {K = K} y.tables process at_it.phase it over refl refl refl
+            (engine_kept {K = K} x.tables y.tables process at_it.phase it passes at_it.engine);
       }
 
-  mine : (z : Process) → process_in y process ≡ Some z →
-      IsProcessAt n (slice_index_or y.disk.held process None) y.tables process z
+  mine : (z : Process P) → process_in y process ≡ Some z →
+      IsProcessAt K n (slice_index_or y.disk.held process None) y.tables process z
   mine z there =
-      subst (IsProcessAt n (slice_index_or y.disk.held process None) y.tables process)
+      subst (IsProcessAt K n (slice_index_or y.disk.held process None) y.tables process)
       (same_Some (counted it c) z (sym (ends.mine it c begun.there had.1) ∙ there)) (by last refl)
     where
-      by : (b : Bool) → last ≡ b → IsProcessAt n (slice_index_or y.disk.held process None) y.tables process (cond b over (record it { used = it.used + 1 }))
+      by : (b : Bool) → last ≡ b → IsProcessAt K n (slice_index_or y.disk.held process None) y.tables process (cond b over (record it { used = it.used + 1 }))
       by true is = has_gone is
       by false is = goes_on is
 
-  pub end_step : Shows script y (after_effect m p)
+  pub end_step : Shows K script y (after_effect m p)
   end_step =
       one_steps script x y m n process shows
       (record {
@@ -199,8 +202,9 @@ module _ (script : Script) (x y : Parts) (m : State) (p : Place) (before : List 
         };
         parts = ends.others;
         passes = record {
-          lent = λ pass other lent. subst (λ (t : PlainState). IsLent t pass) (sym ends.tables) lent;
-          here = λ other differ lies. subst (λ (t : PlainState). LiesHere t.places other) (sym ends.tables) lies;
+          lent = λ pass other lent. subst (λ (t : T). K.is_of t pass) (sym ends.tables) lent;
+          here = λ other differ lies. subst (λ (t : T). K.lies t other) (sym ends.tables) lies;
+          going = λ apart. subst K.apart (sym ends.tables) apart;
         };
         holds = holds (c.finished && nat_eq (length c.outstanding) 0) refl;
         disk = record {
@@ -210,6 +214,6 @@ module _ (script : Script) (x y : Parts) (m : State) (p : Place) (before : List 
           opens = shows.disk.opens ∙ ap (λ (k : DiskState). k.rows) (sym disk_is);
         };
         journal = shows.journal ∙ sym ends.log.entries;
-        tables = shows.tables ∙ ap tables_of (sym ends.tables);
+        tables = subst (λ (t : T). K.shows t m.tables) (sym ends.tables) shows.tables;
         mine = mine;
       })

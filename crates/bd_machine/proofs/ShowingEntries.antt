@@ -8,13 +8,12 @@ use Rattle.bd_base.specs.declared.script.Call.TheVariants.{Enter}
 use Rattle.bd_base.specs.Pieces.{Piece}
 use Rattle.bd_entry.specs.declared.entry.Entry.{Entry}
 use Rattle.bd_entry.specs.Calls.{Place, fd_of_call, has_missed, is_miss_of, piece_of_call}
-use Rattle.bd_machine.specs.Shows.{IsCommandOf, IsHandOf, IsOutcome, phase_of}
+use Rattle.bd_machine.specs.Shows.{IsCommandOf, IsHandOf, IsOutcome, tells}
 use Rattle.bd_machine.specs.declared.process.Hand.{Hand}
-use Rattle.bd_machine.specs.declared.process.Phase.{Phase}
 use Rattle.bd_queue_pair.specs.declared.command.Command.{Command}
 use Rattle.bd_queue_pair.specs.declared.command.DoneKind.{DoneKind}
 use Rattle.bd_turns.specs.Engines.{request_for}
-use Rattle.bd_turns.specs.Sound.{has_told}
+use Rattle.bd_turns.specs.State.{Phase}
 
 -- the place after one more entry
 abbrev pub with_one_more : Place → Entry → Place
@@ -59,14 +58,14 @@ outcome_same true missed more None same is = is
 outcome_same true missed more (Some kind) same is = is ∙ sym (same refl)
 
 -- the command in hand stays so, where the entry is no miss of one that the journal tells of already
-pub hand_more : (p : Place) (e : Entry) (phase : Phase) (hand : Hand) →
-    (has_told (phase_of phase) ≡ true → is_miss_of hand.command.piece e ≡ false) →
+pub hand_more : (p : Place) (e : Entry) (phase : Option Phase) (hand : Hand) →
+    (tells phase ≡ true → is_miss_of hand.command.piece e ≡ false) →
     IsHandOf p phase hand → IsHandOf (with_one_more p e) phase hand
 hand_more p e phase hand told is =
     record {
       command = command_more p e hand.command is.command;
       outcome =
-          outcome_same (has_told (phase_of phase)) (has_missed hand.command.piece p.before)
+          outcome_same (tells phase) (has_missed hand.command.piece p.before)
           (has_missed hand.command.piece (p.before ++ e ∷ [])) hand.outcome
-          (λ tells. missed_more hand.command.piece p.before e (told tells)) is.outcome;
+          (λ is_told. missed_more hand.command.piece p.before e (told is_told)) is.outcome;
     }

@@ -9,6 +9,7 @@ use Rattle.bd_entry.specs.Calls.{Place, call_at}
 use Rattle.bd_machine.specs.declared.parts.Parts.{Parts}
 use Rattle.bd_machine.specs.Shows.{Shows}
 use Rattle.bd_machine.specs.Turns.{TookTurn}
+use Rattle.bd_tables.specs.declared.sides.Tables as sides
 use Rattle.bd_turns.specs.declared.turn.Turn.TheVariants.{Idle}
 use Rattle.bd_turns.specs.Engines.{invalidation_of}
 use Rattle.bd_turns.specs.State.{Posted, State, place_of}
@@ -34,12 +35,12 @@ last_outcome m actor none most =
     ∙ nothing_posted m none
 
 -- so its turn changes nothing
-pub last_turn : (script : Script) (x : Parts) (m : State) (actor : ℕ) → Shows script x m → 2 * process_count m ≤ actor →
-    TookTurn script x x m actor Idle
-last_turn script x m actor shows most =
+pub last_turn : {T M P : Type 0} {K : sides.Ghosts T P} (script : Script) (x : Parts T M P) (m : State) (actor : ℕ) →
+    Shows K script x m → 2 * process_count m ≤ actor → TookTurn K script x x m actor Idle
+last_turn {T} {M} {P} {K} script x m actor shows most =
     let is = last_outcome m actor shows.posted most in
     record {
-      shows = subst (λ (o : Outcome). Shows script x (state_after m o)) (sym is) shows;
+      shows = subst (λ (o : Outcome). Shows K script x (state_after m o)) (sym is) shows;
       answer = ap answer_in (sym is);
       events = sym (append-nil x.log.events);
       turns = refl;

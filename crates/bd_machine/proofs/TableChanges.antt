@@ -23,8 +23,10 @@ use Rattle.bd_entry.specs.Store.{Store, Valid, blocks_in, file_in}
 use Rattle.bd_entry.proofs.NextActs.{map_from, then_from}
 use Rattle.bd_machine.specs.declared.parts.Parts.{Parts}
 use Rattle.bd_machine.specs.Turns.{CanChangeTables, TableChange}
-use Rattle.bd_tables.specs.Plain.{tables_of}
-use Rattle.bd_tables.specs.State.{TableState}
+use Rattle.bd_tables.specs.Kernel.{KernelState}
+use Rattle.bd_tables.specs.Plain.{cells_of}
+use Rattle.bd_tables.specs.Seen.{IsKernelOf}
+use Rattle.bd_tables.specs.State.{CellMap, Rights, TableState}
 use Rattle.bd_turns.specs.Added.{IsAdded, by_processor}
 use Rattle.bd_turns.specs.Reached.{IsReached}
 use Rattle.bd_turns.specs.Sound.{is_clear}
@@ -33,20 +35,24 @@ use Rattle.bd_turns.specs.Turns.{tables_after}
 use Rattle.bd_turns.proofs.AddedEntries.{added_keeps}
 use Rattle.bd_turns.proofs.LegalTurns.{turns_add_legally}
 use Rattle.bd_turns.proofs.RunningPlaces.{runs_at}
+use Rattle.bd_turns.proofs.CellsOfPairs.{AreCells}
+use Rattle.bd_turns.proofs.RightsFit.{AllFit}
 use Rattle.bd_turns.proofs.TablesOfEntries.{AreTablesOf}
 use Rattle.bd_turns.proofs.TablesOfEntries as sound_tables
+use Rattle.bd_tables.specs.declared.sides.Tables as sides
 
 -- what is known of an entry that changes the tables
-pub record Changes (x : Parts) (g : TableChange) (e : Entry) (cells : List Cell) : Type 0 where
+pub record Changes {T M P : Type 0} (x : Parts T M P) (g : TableChange) (e : Entry) (cells : List Cell) : Type 0 where
   pub place : Place
   pub volume : Volume
   pub added : IsAdded volume g.before place e
   pub keeps : (rule : EntryRule) → FitsStore g.before.store place e rule
   pub valid : Valid g.before.store
-  pub tables : AreTablesOf g.before.store (tables_of x.tables)
+  pub tables : AreTablesOf g.before.store g.before.tables
   pub after : g.after ≡ effect_of g.before.store place e
 
-pub changes : (x : Parts) (g : TableChange) (e : Entry) (cells : List Cell) → CanChangeTables x g e cells → Changes x g e cells
+pub changes : {T M P : Type 0} {K : sides.Ghosts T P} (x : Parts T M P) (g : TableChange) (e : Entry) (cells : List Cell) →
+    CanChangeTables K x g e cells → Changes x g e cells
 changes x g e cells can =
     let m : State = g.before in
     let v : Volume = can.reached.0 in
@@ -62,8 +68,22 @@ changes x g e cells can =
       added = added;
       keeps = added_keeps v m p e added;
       valid = reached.sound.calls.valid;
-      tables = subst (AreTablesOf m.store) can.tables (sound_tables.tables_of m reached.sound.tables_are);
+      tables = sound_tables.tables_of m reached.sound.tables_are;
       after = can.after;
+    }
+
+-- what the kernel's side sees of such tables is of the store too
+pub record SeesTablesOf (s : Store) (kernel : KernelState) : Type 0 where
+  pub fit : AllFit kernel.rights s
+  pub cells : AreCells kernel.rights (cells_of kernel.book) s
+
+pub kernel_sees : (s : Store) (kernel : KernelState) (t : TableState) → IsKernelOf kernel t → AreTablesOf s t → SeesTablesOf s kernel
+kernel_sees s kernel t seen tables =
+    record {
+      fit = subst (λ (r : Rights). AllFit r s) (sym seen.rights) tables.fit;
+      cells =
+          subst (λ (r : Rights). AreCells r (cells_of kernel.book) s) (sym seen.rights)
+          (subst (λ (c : CellMap). AreCells t.rights c s) (sym seen.cells) tables.cells);
     }
 
 -- ---- no act clears a right by its own entry

@@ -27,13 +27,14 @@ use Rattle.bd_kernel.specs.Changes.{Rows, slot_at}
 use Rattle.bd_machine.specs.declared.parts.Parts.{Parts}
 use Rattle.bd_machine.specs.Turns.{CanChangeTables, TableChange}
 use Rattle.bd_machine.proofs.CellsOfParts.{cells_of_part-same}
-use Rattle.bd_machine.proofs.TableChanges.{Changes, changes}
+use Rattle.bd_machine.proofs.TableChanges.{Changes, SeesTablesOf, changes, kernel_sees}
 use Rattle.bd_machine.proofs.TableChangesOfPairs.{not_full}
 use Rattle.bd_tables.specs.declared.state.Right.{Right}
 use Rattle.bd_tables.specs.Effects as effects
-use Rattle.bd_tables.specs.Kernel.{AgreesWith, HasLimit, IsFullFor}
-use Rattle.bd_tables.specs.Plain.{PlainState, cells_of, its_cells, tables_of}
-use Rattle.bd_tables.specs.State.{Rights}
+use Rattle.bd_tables.specs.Kernel.{AgreesWith, HasLimit, IsFullFor, KernelState}
+use Rattle.bd_tables.specs.Plain.{cells_of, its_cells}
+use Rattle.bd_tables.specs.Seen.{IsKernelOf}
+use Rattle.bd_tables.specs.State.{Rights, TableState}
 use Rattle.bd_tables.proofs.Places.{get-cells_of}
 use Rattle.bd_turns.specs.Turns.{attached_tables, cell_in, cells_from, cells_of_part, may_write, tables_after}
 use Rattle.bd_turns.proofs.CellsOfFiles.{limit_there}
@@ -41,6 +42,7 @@ use Rattle.bd_turns.proofs.CellsOfGrowth.{padded-size, part_cells-look}
 use Rattle.bd_turns.proofs.CellsOfPairs.{AreCells, cells_of_used}
 use Rattle.bd_turns.proofs.RightsFit.{AllFit, Fits, key_at}
 use Rattle.bd_turns.proofs.RightsKept.{attached_there}
+use Rattle.bd_tables.specs.declared.sides.Tables as sides
 
 -- ---- the cells of a part
 
@@ -86,9 +88,9 @@ part-limits s file part f there enough =
 
 -- ---- the tables have these cells already, where they have the pair
 
-agrees : (rights : Rights) (plain : PlainState) (s : Store) (file part : ℕ) → AreCells rights (cells_of plain.book) s →
-    AgreesWith plain.book (record { file = file; part = part }) (cells_of_part s file part)
-agrees rights plain s file part are = by (fin.get plain.book pair) refl
+agrees : (rights : Rights) (kernel : KernelState) (s : Store) (file part : ℕ) → AreCells rights (cells_of kernel.book) s →
+    AgreesWith kernel.book (record { file = file; part = part }) (cells_of_part s file part)
+agrees rights kernel s file part are = by (fin.get kernel.book pair) refl
   where
     pair : Pair
     pair = record { file = file; part = part }
@@ -96,11 +98,11 @@ agrees rights plain s file part are = by (fin.get plain.book pair) refl
     cells : List Cell
     cells = cells_of_part s file part
 
-    by : (o : Option _) → fin.get plain.book pair ≡ o → IfSome o (λ fragment. fragment.cells ≡ map (slice_get cells) (range_with_len 0 PART_BLOCKS))
+    by : (o : Option _) → fin.get kernel.book pair ≡ o → IfSome o (λ fragment. fragment.cells ≡ map (slice_get cells) (range_with_len 0 PART_BLOCKS))
     by None none = tt
     by (Some fragment) is =
-        let there : fin.get (cells_of plain.book) pair ≡ Some fragment.cells = get-cells_of plain.book pair ∙ ap (option_map its_cells) is in
-        let has = cells_of_used rights (cells_of plain.book) s are pair (ap is_some there) in
+        let there : fin.get (cells_of kernel.book) pair ≡ Some fragment.cells = get-cells_of kernel.book pair ∙ ap (option_map its_cells) is in
+        let has = cells_of_used rights (cells_of kernel.book) s are pair (ap is_some there) in
         let its : has.its ≡ fragment.cells = same_Some has.its fragment.cells (sym has.there ∙ there) in
         let size : length has.its ≡ PART_BLOCKS = has.size in
         let padded_size : length (map (slice_get cells) (range_with_len 0 PART_BLOCKS)) ≡ PART_BLOCKS = padded-size cells in
@@ -136,21 +138,23 @@ unattached_part s d part lowest =
 -- ---- all of it
 
 -- what an attach asks of the tables, and what it leaves
-pub record Attaching (x : Parts) (g : TableChange) (at : At) (fd part : ℕ) (cells : List Cell) : Type 0 where
+pub record Attaching {T M P : Type 0} (kernel : KernelState) (x : Parts T M P) (g : TableChange) (at : At) (fd part : ℕ) (cells : List Cell) :
+    Type 0 where
   pub d : Descriptor
   pub open_is : slot_at x.disk.rows at.process fd ≡ Some d
-  pub not_attached : fin.get x.tables.rights (key_at at.process fd part) ≡ None
+  pub not_attached : fin.get kernel.rights (key_at at.process fd part) ≡ None
   pub room : length cells ≤ PART_BLOCKS
   pub limits : All HasLimit cells
-  pub agree : AgreesWith x.tables.book (record { file = d.file; part = part }) cells
-  pub not_full : IsFullFor x.tables.book (record { file = d.file; part = part }) → ⊥
-  pub after :
-      tables_after g.after (tables_of x.tables) (Attached at fd part)
-      ≡ effects.attach (tables_of x.tables) (key_at at.process fd part) d.file (may_write d.mode) cells
+  pub agree : AgreesWith kernel.book (record { file = d.file; part = part }) cells
+  pub not_full : IsFullFor kernel.book (record { file = d.file; part = part }) → ⊥
+  pub after : (t : TableState) →
+      tables_after g.after t (Attached at fd part)
+      ≡ effects.attach t (key_at at.process fd part) d.file (may_write d.mode) cells
 
-pub attaching : (x : Parts) (g : TableChange) (at : At) (fd part : ℕ) (cells : List Cell) → CanChangeTables x g (Attached at fd part) cells →
-    Attaching x g at fd part cells
-attaching x g at fd part cells can =
+pub attaching : {T M P : Type 0} {K : sides.Ghosts T P} (kernel : KernelState) (x : Parts T M P) (g : TableChange) (at : At) (fd part : ℕ)
+    (cells : List Cell) → IsKernelOf kernel g.before.tables → CanChangeTables K x g (Attached at fd part) cells →
+    Attaching kernel x g at fd part cells
+attaching kernel x g at fd part cells seen can =
     let e : Entry = Attached at fd part in
     let known : Changes x g e cells = changes x g e cells can in
     let s : Store = g.before.store in
@@ -169,50 +173,54 @@ attaching x g at fd part cells can =
     sym (cells_is ∙ ap (λ (n : ℕ). cells_of_part g.after n part) file_is ∙ cells_of_part-same g.after s old.file part files) in
     let file = some_of (file_in s old.file) (known.valid.descriptors at.process fd old there).of_file in
     let enough : length file.0.blocks ≡ blocks_for file.0.size = (known.valid.volume.files.valid.each old.file file.0 file.1).enough_blocks in
-    let fit : AllFit x.tables.rights s = known.tables.fit in
+    let sees : SeesTablesOf s kernel = kernel_sees s kernel g.before.tables seen known.tables in
     record {
       d = d;
       open_is = ap (λ (rows : Rows). slot_at rows at.process fd) (sym can.disk.opens) ∙ after_there;
-      not_attached = free_key x.tables.rights s at.process fd part old fit there (unattached_part s old part rights.2.0);
+      not_attached = free_key kernel.rights s at.process fd part old sees.fit there (unattached_part s old part rights.2.0);
       room = subst (λ (cs : List Cell). length cs ≤ PART_BLOCKS) same_cells (part-count s old.file part);
       limits = subst (All HasLimit) same_cells (part-limits s old.file part file.0 file.1 enough);
       agree =
-          subst (λ (n : ℕ). AgreesWith x.tables.book (record { file = n; part = part }) cells) (sym file_is)
-          (subst (AgreesWith x.tables.book (record { file = old.file; part = part })) same_cells
-          (agrees x.tables.rights x.tables s old.file part known.tables.cells));
+          subst (λ (n : ℕ). AgreesWith kernel.book (record { file = n; part = part }) cells) (sym file_is)
+          (subst (AgreesWith kernel.book (record { file = old.file; part = part })) same_cells
+          (agrees kernel.rights kernel s old.file part sees.cells));
       not_full = λ full.
-          not_full x.tables.rights x.tables s old.file part fit known.tables.cells rights.2.1
-          (subst (λ (n : ℕ). IsFullFor x.tables.book (record { file = n; part = part })) file_is full);
-      after =
-          ap (λ (o : Option Descriptor). option_map_or (attached_tables g.after (tables_of x.tables) at.process fd part) o (tables_of x.tables)) after_there
-          ∙ ap (effects.attach (tables_of x.tables) (key_at at.process fd part) d.file (may_write d.mode)) (sym cells_is);
+          not_full kernel.rights kernel s old.file part sees.fit sees.cells rights.2.1
+          (subst (λ (n : ℕ). IsFullFor kernel.book (record { file = n; part = part })) file_is full);
+      after = λ t.
+          ap (λ (o : Option Descriptor). option_map_or (attached_tables g.after t at.process fd part) o t) after_there
+          ∙ ap (effects.attach t (key_at at.process fd part) d.file (may_write d.mode)) (sym cells_is);
     }
 
 -- what an attach on this file, in this mode, asks of the tables and leaves
-pub record AttachingTo (x : Parts) (g : TableChange) (e : Entry) (at : At) (fd part file : ℕ) (write : Bool) (cells : List Cell) : Type 0 where
-  pub not_attached : fin.get x.tables.rights (key_at at.process fd part) ≡ None
+pub record AttachingTo (kernel : KernelState) (g : TableChange) (e : Entry) (at : At) (fd part file : ℕ) (write : Bool) (cells : List Cell) :
+    Type 0 where
+  pub not_attached : fin.get kernel.rights (key_at at.process fd part) ≡ None
   pub room : length cells ≤ PART_BLOCKS
   pub limits : All HasLimit cells
-  pub agree : AgreesWith x.tables.book (record { file = file; part = part }) cells
-  pub not_full : IsFullFor x.tables.book (record { file = file; part = part }) → ⊥
-  pub after : effects.attach (tables_of x.tables) (key_at at.process fd part) file write cells ≡ tables_after g.after (tables_of x.tables) e
+  pub agree : AgreesWith kernel.book (record { file = file; part = part }) cells
+  pub not_full : IsFullFor kernel.book (record { file = file; part = part }) → ⊥
+  pub after : (t : TableState) →
+      effects.attach t (key_at at.process fd part) file write cells ≡ tables_after g.after t e
 
 -- the same of the entry by its own name
-an_attach : (x : Parts) (g : TableChange) (e : Entry) (cells : List Cell) (at : At) (fd part : ℕ) → CanChangeTables x g e cells →
-    e ≡ Attached at fd part → CanChangeTables x g (Attached at fd part) cells
-an_attach x g e cells at fd part can is = subst (λ (y : Entry). CanChangeTables x g y cells) is can
+an_attach : {T M P : Type 0} {K : sides.Ghosts T P} (x : Parts T M P) (g : TableChange) (e : Entry) (cells : List Cell) (at : At)
+    (fd part : ℕ) → CanChangeTables K x g e cells → e ≡ Attached at fd part → CanChangeTables K x g (Attached at fd part) cells
+an_attach {K = K} x g e cells at fd part can is = subst (λ (y : Entry). CanChangeTables K x g y cells) is can
 
 -- the descriptor of an attach is open
-pub attach_open : (x : Parts) (g : TableChange) (e : Entry) (cells : List Cell) (at : At) (fd part : ℕ) → CanChangeTables x g e cells →
+pub attach_open : {T M P : Type 0} {K : sides.Ghosts T P} (kernel : KernelState) (x : Parts T M P) (g : TableChange) (e : Entry)
+    (cells : List Cell) (at : At) (fd part : ℕ) → IsKernelOf kernel g.before.tables → CanChangeTables K x g e cells →
     e ≡ Attached at fd part → (d : Descriptor) × (slot_at x.disk.rows at.process fd ≡ Some d)
-attach_open x g e cells at fd part can is =
-    let known = attaching x g at fd part cells (an_attach x g e cells at fd part can is) in (known.d, known.open_is)
+attach_open kernel x g e cells at fd part seen can is =
+    let known = attaching kernel x g at fd part cells seen (an_attach x g e cells at fd part can is) in (known.d, known.open_is)
 
-pub attaching_to : (x : Parts) (g : TableChange) (e : Entry) (cells : List Cell) (at : At) (fd part : ℕ) (d : Descriptor) (file : ℕ) (write : Bool) →
-    CanChangeTables x g e cells → e ≡ Attached at fd part → slot_at x.disk.rows at.process fd ≡ Some d → file ≡ d.file → write ≡ may_write d.mode →
-    AttachingTo x g e at fd part file write cells
-attaching_to x g e cells at fd part d file write can is opened file_is write_is =
-    let known = attaching x g at fd part cells (an_attach x g e cells at fd part can is) in
+pub attaching_to : {T M P : Type 0} {K : sides.Ghosts T P} (kernel : KernelState) (x : Parts T M P) (g : TableChange) (e : Entry)
+    (cells : List Cell) (at : At) (fd part : ℕ) (d : Descriptor) (file : ℕ) (write : Bool) → IsKernelOf kernel g.before.tables →
+    CanChangeTables K x g e cells → e ≡ Attached at fd part → slot_at x.disk.rows at.process fd ≡ Some d → file ≡ d.file → write ≡ may_write d.mode →
+    AttachingTo kernel g e at fd part file write cells
+attaching_to kernel x g e cells at fd part d file write seen can is opened file_is write_is =
+    let known = attaching kernel x g at fd part cells seen (an_attach x g e cells at fd part can is) in
     let same : known.d ≡ d = same_Some known.d d (sym known.open_is ∙ opened) in
     let its : known.d.file ≡ file = ap (λ (it : Descriptor). it.file) same ∙ sym file_is in
     let mode : may_write known.d.mode ≡ write = ap (λ (it : Descriptor). may_write it.mode) same ∙ sym write_is in
@@ -221,10 +229,10 @@ attaching_to x g e cells at fd part d file write can is opened file_is write_is 
       not_attached = known.not_attached;
       room = known.room;
       limits = known.limits;
-      agree = subst (λ (n : ℕ). AgreesWith x.tables.book (record { file = n; part = part }) cells) its known.agree;
-      not_full = λ full. known.not_full (subst (λ (n : ℕ). IsFullFor x.tables.book (record { file = n; part = part })) (sym its) full);
-      after =
-          sym (ap (tables_after g.after (tables_of x.tables)) is ∙ known.after
-          ∙ ap (λ (n : ℕ). effects.attach (tables_of x.tables) key n (may_write known.d.mode) cells) its
-          ∙ ap (λ (b : Bool). effects.attach (tables_of x.tables) key file b cells) mode);
+      agree = subst (λ (n : ℕ). AgreesWith kernel.book (record { file = n; part = part }) cells) its known.agree;
+      not_full = λ full. known.not_full (subst (λ (n : ℕ). IsFullFor kernel.book (record { file = n; part = part })) (sym its) full);
+      after = λ t.
+          sym (ap (tables_after g.after t) is ∙ known.after t
+          ∙ ap (λ (n : ℕ). effects.attach t key n (may_write known.d.mode) cells) its
+          ∙ ap (λ (b : Bool). effects.attach t key file b cells) mode);
     }

@@ -23,17 +23,19 @@ use Rattle.bd_entry.proofs.EffectsOnFiles.{effect_of-files}
 use Rattle.bd_entry.proofs.SoundVolumes.{GrowsTo, grows_to}
 use Rattle.bd_machine.specs.declared.parts.Parts.{Parts}
 use Rattle.bd_machine.specs.Turns.{CanChangeTables, TableChange}
-use Rattle.bd_machine.proofs.TableChanges.{Changes, changes}
-use Rattle.bd_tables.specs.Kernel.{IsEmptyEntry, IsEntryUpTo, ReachesUpTo}
+use Rattle.bd_machine.proofs.TableChanges.{Changes, SeesTablesOf, changes, kernel_sees}
+use Rattle.bd_tables.specs.Kernel.{IsEmptyEntry, IsEntryUpTo, KernelState, ReachesUpTo}
 use Rattle.bd_tables.specs.Effects as effects
-use Rattle.bd_tables.specs.Plain.{PlainState, cells_of, its_cells, tables_of}
-use Rattle.bd_tables.specs.State.{Rights, block_pair}
+use Rattle.bd_tables.specs.Plain.{cells_of, its_cells}
+use Rattle.bd_tables.specs.Seen.{IsKernelOf}
+use Rattle.bd_tables.specs.State.{Rights, TableState, block_pair}
 use Rattle.bd_tables.proofs.Places.{get-cells_of}
 use Rattle.bd_turns.specs.Sound.{cell_of_block}
 use Rattle.bd_turns.specs.Turns.{cell_in, tables_after}
 use Rattle.bd_turns.proofs.CellsOfFiles.{Grown, Grows, by_block, grows, in_block, limit_there}
 use Rattle.bd_turns.proofs.CellsOfGrowth.{cell_if, cell_of_block-is, entry_of_block}
 use Rattle.bd_turns.proofs.CellsOfPairs.{AreCells}
+use Rattle.bd_tables.specs.declared.sides.Tables as sides
 
 -- the file of an entry that grows it
 grown_slot : (s : Store) (q : Place) (at : At) (file to : ℕ) (block : Option ℕ) (f : Inode) → file_in s file ≡ Some f →
@@ -61,25 +63,26 @@ of_fragment f None P holds = tt
 of_fragment f (Some x) P holds = holds
 
 -- what holds of a block of a file holds of its entry, where its part is in use
-entry_holds : (rights : Rights) (plain : PlainState) (s : Store) (file index : ℕ) → AreCells rights (cells_of plain.book) s →
+entry_holds : (rights : Rights) (kernel : KernelState) (s : Store) (file index : ℕ) → AreCells rights (cells_of kernel.book) s →
     (P : Option Cell → Type 0) → P (cell_of_block s file index) →
-    IfSome (fin.get plain.book (block_pair file index)) (λ fragment. P (slice_index_or fragment.cells (index % PART_BLOCKS) None))
-entry_holds rights plain s file index are P holds =
-    of_fragment its_cells (fin.get plain.book (block_pair file index)) (λ its. P (slice_index_or its (index % PART_BLOCKS) None))
-    (subst (λ (o : Option _). IfSome o (λ its. P (slice_index_or its (index % PART_BLOCKS) None))) (get-cells_of plain.book (block_pair file index))
-    (entry_of_block rights (cells_of plain.book) s file index are P holds))
+    IfSome (fin.get kernel.book (block_pair file index)) (λ fragment. P (slice_index_or fragment.cells (index % PART_BLOCKS) None))
+entry_holds rights kernel s file index are P holds =
+    of_fragment its_cells (fin.get kernel.book (block_pair file index)) (λ its. P (slice_index_or its (index % PART_BLOCKS) None))
+    (subst (λ (o : Option _). IfSome o (λ its. P (slice_index_or its (index % PART_BLOCKS) None))) (get-cells_of kernel.book (block_pair file index))
+    (entry_of_block rights (cells_of kernel.book) s file index are P holds))
 
 -- what a growth asks of the tables
-pub record Growing (x : Parts) (g : TableChange) (file to : ℕ) (block : Option ℕ) : Type 0 where
+pub record Growing (kernel : KernelState) (g : TableChange) (file to : ℕ) (block : Option ℕ) : Type 0 where
   pub some : 1 ≤ to
   pub few : to ≤ FILE_SIZE
   pub limit : limit_in g.after file ((to - 1) / BLOCK_SIZE) ≡ to - BLOCK_SIZE * ((to - 1) / BLOCK_SIZE)
-  pub empty : (b : ℕ) → block ≡ Some b → IsEmptyEntry x.tables.book file ((to - 1) / BLOCK_SIZE)
-  pub filled : block ≡ None → IsEntryUpTo x.tables.book file ((to - 1) / BLOCK_SIZE) (to - BLOCK_SIZE * ((to - 1) / BLOCK_SIZE))
+  pub empty : (b : ℕ) → block ≡ Some b → IsEmptyEntry kernel.book file ((to - 1) / BLOCK_SIZE)
+  pub filled : block ≡ None → IsEntryUpTo kernel.book file ((to - 1) / BLOCK_SIZE) (to - BLOCK_SIZE * ((to - 1) / BLOCK_SIZE))
 
-pub growing : (x : Parts) (g : TableChange) (at : At) (file to : ℕ) (block : Option ℕ) (cells : List Cell) →
-    CanChangeTables x g (Extended at file to block) cells → Growing x g file to block
-growing x g at file to block cells can = record {
+pub growing : {T M P : Type 0} {K : sides.Ghosts T P} (kernel : KernelState) (x : Parts T M P) (g : TableChange) (at : At)
+    (file to : ℕ) (block : Option ℕ) (cells : List Cell) → IsKernelOf kernel g.before.tables →
+    CanChangeTables K x g (Extended at file to block) cells → Growing kernel g file to block
+growing kernel x g at file to block cells seen can = record {
   some = let larger : f.size < to = growth.larger in omega arith;
   few = far.fits;
   limit =
@@ -99,6 +102,9 @@ growing x g at file to block cells can = record {
     p : Place
     p = known.place
 
+    sees : SeesTablesOf s kernel
+    sees = kernel_sees s kernel g.before.tables seen known.tables
+
     index : ℕ
     index = (to - 1) / BLOCK_SIZE
 
@@ -117,14 +123,14 @@ growing x g at file to block cells can = record {
     blocks : blocks_in s file ≡ f.blocks
     blocks = ap blocks_of_slot there
 
-    new_entry : (b : ℕ) → Grown f to (Some b) → IsEmptyEntry x.tables.book file index
+    new_entry : (b : ℕ) → Grown f to (Some b) → IsEmptyEntry kernel.book file index
     new_entry b (by_block same at_end) =
         let none : cell_of_block s file index ≡ None =
         cell_of_block-is s file index ∙ ap (λ (xs : List ℕ). cell_if s file index (slice_get xs index)) blocks
         ∙ ap (cell_if s file index) (slice_get_past f.blocks index (omega arith)) in
-        entry_holds x.tables.rights x.tables s file index known.tables.cells (λ (c : Option Cell). c ≡ None) none
+        entry_holds kernel.rights kernel s file index sees.cells (λ (c : Option Cell). c ≡ None) none
 
-    old_entry : Grown f to None → IsEntryUpTo x.tables.book file index (to - BLOCK_SIZE * index)
+    old_entry : Grown f to None → IsEntryUpTo kernel.book file index (to - BLOCK_SIZE * index)
     old_entry (in_block last is count) =
         let larger : f.size < to = growth.larger in
         let inside : index < length f.blocks = slice_get_within f.blocks index last is in
@@ -132,34 +138,34 @@ growing x g at file to block cells can = record {
         cell_of_block-is s file index ∙ ap (λ (xs : List ℕ). cell_if s file index (slice_get xs index)) blocks ∙ ap (cell_if s file index) is in
         let limit : limit_in s file index ≡ limit_of f.size f.blocks index = limit_by s file index f there in
         let up : limit_in s file index ≤ to - BLOCK_SIZE * index = omega (arith, limit, limit_there f.size f.blocks index inside, larger) in
-        entry_holds x.tables.rights x.tables s file index known.tables.cells (ReachesUpTo (to - BLOCK_SIZE * index))
+        entry_holds kernel.rights kernel s file index sees.cells (ReachesUpTo (to - BLOCK_SIZE * index))
         (subst (ReachesUpTo (to - BLOCK_SIZE * index)) (sym old) up)
 
 -- the same of the entry by its own name
-pub growing_of : (x : Parts) (g : TableChange) (e : Entry) (cells : List Cell) (at : At) (file to : ℕ) (block : Option ℕ) → CanChangeTables x g e cells →
-    e ≡ Extended at file to block → Growing x g file to block
-growing_of x g e cells at file to block can is =
-    growing x g at file to block cells (subst (λ (y : Entry). CanChangeTables x g y cells) is can)
+pub growing_of : {T M P : Type 0} {K : sides.Ghosts T P} (kernel : KernelState) (x : Parts T M P) (g : TableChange) (e : Entry)
+    (cells : List Cell) (at : At) (file to : ℕ) (block : Option ℕ) → IsKernelOf kernel g.before.tables → CanChangeTables K x g e cells →
+    e ≡ Extended at file to block → Growing kernel g file to block
+growing_of {K = K} kernel x g e cells at file to block seen can is =
+    growing kernel x g at file to block cells seen (subst (λ (y : Entry). CanChangeTables K x g y cells) is can)
 
 -- the tables after a growth by this block
-pub grown_by_block : (x : Parts) (g : TableChange) (e : Entry) (cells : List Cell) (at : At) (file to : ℕ) (block : Option ℕ) (b : ℕ) →
-    CanChangeTables x g e cells → e ≡ Extended at file to block → block ≡ Some b →
+pub grown_by_block : (kernel : KernelState) (g : TableChange) (e : Entry) (at : At) (file to : ℕ) (block : Option ℕ) (b : ℕ) →
+    Growing kernel g file to block → e ≡ Extended at file to block → block ≡ Some b → (t : TableState) →
     let index : ℕ = (to - 1) / BLOCK_SIZE in
-    effects.put_entry (tables_of x.tables) file index (record { block = b; limit = to - BLOCK_SIZE * index })
-    ≡ tables_after g.after (tables_of x.tables) e
-grown_by_block x g e cells at file to block b can is taken =
+    effects.put_entry t file index (record { block = b; limit = to - BLOCK_SIZE * index }) ≡ tables_after g.after t e
+grown_by_block kernel g e at file to block b grown is taken t =
     let index : ℕ = (to - 1) / BLOCK_SIZE in
-    let limit = (growing_of x g e cells at file to block can is).limit in
-    ap (λ (n : ℕ). effects.put_entry (tables_of x.tables) file index (record { block = b; limit = n })) (sym limit)
-    ∙ sym (ap (tables_after g.after (tables_of x.tables)) (is ∙ ap (Extended at file to) taken))
+    let limit = grown.limit in
+    ap (λ (n : ℕ). effects.put_entry t file index (record { block = b; limit = n })) (sym limit)
+    ∙ sym (ap (tables_after g.after t) (is ∙ ap (Extended at file to) taken))
 
 -- and after one within the last block
-pub grown_in_block : (x : Parts) (g : TableChange) (e : Entry) (cells : List Cell) (at : At) (file to : ℕ) (block : Option ℕ) →
-    CanChangeTables x g e cells → e ≡ Extended at file to block → block ≡ None →
+pub grown_in_block : (kernel : KernelState) (g : TableChange) (e : Entry) (at : At) (file to : ℕ) (block : Option ℕ) →
+    Growing kernel g file to block → e ≡ Extended at file to block → block ≡ None → (t : TableState) →
     let index : ℕ = (to - 1) / BLOCK_SIZE in
-    effects.raise_limit (tables_of x.tables) file index (to - BLOCK_SIZE * index) ≡ tables_after g.after (tables_of x.tables) e
-grown_in_block x g e cells at file to block can is none =
+    effects.raise_limit t file index (to - BLOCK_SIZE * index) ≡ tables_after g.after t e
+grown_in_block kernel g e at file to block grown is none t =
     let index : ℕ = (to - 1) / BLOCK_SIZE in
-    let limit = (growing_of x g e cells at file to block can is).limit in
-    ap (effects.raise_limit (tables_of x.tables) file index) (sym limit)
-    ∙ sym (ap (tables_after g.after (tables_of x.tables)) (is ∙ ap (Extended at file to) none))
+    let limit = grown.limit in
+    ap (effects.raise_limit t file index) (sym limit)
+    ∙ sym (ap (tables_after g.after t) (is ∙ ap (Extended at file to) none))

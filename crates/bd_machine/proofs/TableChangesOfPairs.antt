@@ -14,8 +14,8 @@ use Rattle.bd_entry.specs.Store.{Descriptor, Store, has_fragment, has_part, in_s
 use Rattle.bd_entry.proofs.Descriptors.{Rows, none_at, slot_at}
 use Rattle.bd_entry.proofs.PairsInUse.{distinct-has, distinct-within, has_pair, pairs-of_slots}
 use Rattle.bd_tables.specs.declared.state.Right.{Right}
-use Rattle.bd_tables.specs.Kernel.{IsFullFor}
-use Rattle.bd_tables.specs.Plain.{PlainState, cells_of, its_cells}
+use Rattle.bd_tables.specs.Kernel.{IsFullFor, KernelState}
+use Rattle.bd_tables.specs.Plain.{cells_of, its_cells}
 use Rattle.bd_tables.specs.State.{Rights}
 use Rattle.bd_tables.proofs.Places.{get-cells_of}
 use Rattle.bd_turns.proofs.CellsOfPairs.{AreCells, IsUsed, tied_pair}
@@ -179,24 +179,24 @@ book_fits {X = X} book (p ∷ pairs) among =
         (cases_Bool (keys.same_pair q pair))
 
 -- a pair that can be given a fragment finds one
-pub not_full : (rights : Rights) (plain : PlainState) (s : Store) (file part : ℕ) → AllFit rights s → AreCells rights (cells_of plain.book) s →
-    has_fragment s file part ≡ true → IsFullFor plain.book (record { file = file; part = part }) → ⊥
-not_full rights plain s file part all cells has full =
+pub not_full : (rights : Rights) (kernel : KernelState) (s : Store) (file part : ℕ) → AllFit rights s → AreCells rights (cells_of kernel.book) s →
+    has_fragment s file part ≡ true → IsFullFor kernel.book (record { file = file; part = part }) → ⊥
+not_full rights kernel s file part all cells has full =
     let pair : Pair = record { file = file; part = part } in
     ⊎_elim {C = ⊥}
     (λ in_use.
     let user = in_use-used rights s file part all in_use in
     let its = cells.all user.0 user.1 user.2 in
     none-some its.its
-    (sym (ap (option_map its_cells) full.not_in_use) ∙ sym (get-cells_of plain.book pair) ∙ ap (fin.get (cells_of plain.book)) (sym user.3) ∙ its.there))
+    (sym (ap (option_map its_cells) full.not_in_use) ∙ sym (get-cells_of kernel.book pair) ∙ ap (fin.get (cells_of kernel.book)) (sym user.3) ∙ its.there))
     (λ few.
     let below : length (pairs_in_use s) < FRAGMENTS = ltb-true (length (pairs_in_use s)) FRAGMENTS few in
-    let fits : fin.len plain.book ≤ length (pairs_in_use s) =
-    book_fits plain.book (pairs_in_use s)
+    let fits : fin.len kernel.book ≤ length (pairs_in_use s) =
+    book_fits kernel.book (pairs_in_use s)
     (λ q has.
     used-in_use rights s q all
-    (cells.used q (ap is_some (get-cells_of plain.book q) ∙ kept (fin.get plain.book q) ∙ has))) in
-    let all_used : fin.len plain.book ≡ FRAGMENTS = full.all_in_use in
+    (cells.used q (ap is_some (get-cells_of kernel.book q) ∙ kept (fin.get kernel.book q) ∙ has))) in
+    let all_used : fin.len kernel.book ≡ FRAGMENTS = full.all_in_use in
     absurd (omega arith))
     (or_cases (list_any (same_pair (file, part)) (pairs_in_use s)) (nat_lt (length (pairs_in_use s)) FRAGMENTS) has)
   where

@@ -6,5 +6,6 @@ pub mod Kept
 pub mod Machine
 pub mod Tasks
 pub mod Engines
+pub mod Asked
 pub mod Booted
 pub mod Whole

@@ -10,6 +10,10 @@ use Rattle.bd_entry.specs.Store.{start_store, volume_in}
 use Rattle.bd_machine.specs.Whole.{Whole}
 use Rattle.bd_machine.specs.declared.run.Run.{Run}
 use Rattle.bd_machine.specs.Kept.{state_shown}
+use Rattle.bd_machine.specs.Turns.{IsAt}
+use Rattle.bd_tables.specs.declared.plain.PlainPass.{PlainPass}
+use Rattle.bd_tables.specs.declared.sides.Tables as sides
+use Rattle.bd_tables.specs.Plain.{PlainState}
 use Rattle.bd_turns.specs.declared.turn.Event.{Event}
 use Rattle.bd_turns.specs.Course.{IsCourse, event_of, visible}
 use Rattle.bd_turns.specs.State.{State, boot_state, progress_of, running_at}
@@ -21,11 +25,24 @@ pub record Progress : Type 0 where
   pub trace : List Event
   pub turns : ℕ
 
--- what contracts see of a machine
-abbrev pub state_of : Whole → State
+-- a machine over tables for one thread
+abbrev pub PlainWhole : Type 0 → Type 0
+PlainWhole M = Whole PlainState M PlainPass
+
+-- the machine shows this state
+abbrev pub IsShown : {T M P : Type 0} → sides.Ghosts T P → Whole T M P → State → Type 0
+IsShown K x m = IsAt K x.script x.parts m
+
+-- a machine always shows a state, and this holds of each that it shows
+pub record InItsStates {T M P : Type 0} (K : sides.Ghosts T P) (x : Whole T M P) (Holds : State → Type 0) : Type 0 where
+  pub some : (m : State) × IsShown K x m
+  pub each : (m : State) → IsShown K x m → Holds m
+
+-- what contracts see of a machine over tables for one thread
+abbrev pub state_of : {M : Type 0} → PlainWhole M → State
 state_of x = state_shown x.script x.parts
 
-abbrev pub shown : Whole → Progress
+abbrev pub shown : {M : Type 0} → PlainWhole M → Progress
 shown x = record { state = state_of x; trace = x.parts.log.events; turns = x.parts.log.turns }
 
 -- the journal is a legal history of the script, from some volume to the store

@@ -28,7 +28,9 @@ use Rattle.bd_machine.specs.declared.parts.Parts.{Parts}
 use Rattle.bd_machine.specs.declared.process.Process.{Process}
 use Rattle.bd_machine.specs.Logs.{AppendsEvent}
 use Rattle.bd_machine.specs.Shows.{Reached, Shows}
-use Rattle.bd_tables.specs.Plain.{tables_of}
+use Rattle.bd_tables.specs.declared.sides.Tables as sides
+use Rattle.bd_tables.specs.Answers.{AllStay}
+use Rattle.bd_tables.specs.Seen.{EnginesStay}
 use Rattle.bd_turns.specs.declared.turn.Row.{Row}
 use Rattle.bd_turns.specs.declared.turn.Turn.{Turn}
 use Rattle.bd_turns.specs.declared.turn.Wait.{Wait}
@@ -56,21 +58,23 @@ AreBuilt script = All (λ (p : ScriptProcess). All (λ call. is_built call ≡ t
 -- ---- turns
 
 -- the parts show a state that a machine can come to, as it runs such a script
-pub record IsAt (script : Script) (x : Parts) (m : State) : Type 0 where
-  pub shows : Shows script x m
+pub record IsAt {T M P : Type 0} (K : sides.Ghosts T P) (script : Script) (x : Parts T M P) (m : State) : Type 0 where
+  pub shows : Shows K script x m
   pub reached : Reached m
   pub built : AreBuilt script
 
 -- the turn of an actor with this answer was taken, and its event told
-pub record TookTurn (script : Script) (old new : Parts) (m : State) (actor : ℕ) (turn : Turn) : Type 0 where
-  pub shows : Shows script new (after_turn m actor)
+pub record TookTurn {T M P : Type 0} (K : sides.Ghosts T P) (script : Script) (old new : Parts T M P) (m : State)
+    (actor : ℕ) (turn : Turn) : Type 0 where
+  pub shows : Shows K script new (after_turn m actor)
   pub answer : turn ≡ answer_of m actor
   pub events : new.log.events ≡ old.log.events ++ event_of old.log.turns actor turn
   pub turns : new.log.turns ≡ old.log.turns
 
 -- the parts show the same state, and nothing was told
-pub record StaysAt (script : Script) (old new : Parts) (m : State) : Type 0 where
-  pub shows : Shows script new m
+pub record StaysAt {T M P : Type 0} (K : sides.Ghosts T P) (script : Script) (old new : Parts T M P) (m : State)
+    : Type 0 where
+  pub shows : Shows K script new m
   pub events : new.log.events ≡ old.log.events
   pub turns : new.log.turns ≡ old.log.turns
 
@@ -123,45 +127,50 @@ after_noting s call process before e =
 -- ---- changes of the parts
 
 -- the process of this number
-abbrev pub process_in : Parts → ℕ → Option Process
+abbrev pub process_in : {T M P : Type 0} → Parts T M P → ℕ → Option (Process P)
 process_in x process = slice_get x.processes.items process
 
 -- the running call of the process was begun
-pub record HasBegun (x : Parts) (process : ℕ) : Type 0 where
-  pub it : Process
+pub record HasBegun {T M P : Type 0} (x : Parts T M P) (process : ℕ) : Type 0 where
+  pub it : Process P
   pub there : process_in x process ≡ Some it
   pub begun : IsSome it.call
 
 -- a completion of the process has come that was not polled
-abbrev pub HasCompletion : Parts → ℕ → Type 0
-HasCompletion x process = (y : Process) → process_in x process ≡ Some y → y.queue.completed ≢ []
+abbrev pub HasCompletion : {T M P : Type 0} → Parts T M P → ℕ → Type 0
+HasCompletion {T} {M} {P} x process = (y : Process P) → process_in x process ≡ Some y → y.queue.completed ≢ []
 
 -- all processes but this one stay
-pub record OthersStay (old new : Parts) (process : ℕ) : Type 0 where
+pub record OthersStay {T M P : Type 0} (old new : Parts T M P) (process : ℕ) : Type 0 where
   pub count : length new.processes.items ≡ length old.processes.items
   pub others : (other : ℕ) → other ≢ process → process_in new other ≡ process_in old other
 
 -- the running call of the process took note of the entry, and the process was told what the entry tells
-pub record NotesEntry (old new : Parts) (process : ℕ) (e : Entry) : Type 0 where
+pub record NotesEntry {T M P : Type 0} (old new : Parts T M P) (process : ℕ) (e : Entry) : Type 0 where
   pub tables : new.tables ≡ old.tables
   pub held : new.disk.held ≡ old.disk.held
   pub log : new.log ≡ old.log
   pub others : OthersStay old new process
-  pub mine : (y : Process) (c : kernel.Progress) → process_in old process ≡ Some y → y.call ≡ Some c →
+  pub mine : (y : Process P) (c : kernel.Progress) → process_in old process ≡ Some y → y.call ≡ Some c →
       (d : kernel.Progress) × (process_in new process ≡ Some (record y { call = Some d })) × IsSameCall c d
       × (d.outstanding ≡ c.outstanding) × Takes c e d
-  pub disk : (y : Process) (c : kernel.Progress) (before : List Entry) (s : Store) →
+  pub disk : (y : Process P) (c : kernel.Progress) (before : List Entry) (s : Store) →
       process_in old process ≡ Some y → y.call ≡ Some c → AreEntriesOf c before →
       is_ended_by c.call before ≡ false →
       IsDiskOf old.disk s → IsDiskOf new.disk (after_noting s c.call process before e)
 
+-- no pass of the tables is lent or taken back, and all others of them stay
+pub record PassesStay {T P : Type 0} (K : sides.Ghosts T P) (old new : T) : Type 0 where
+  pub lent : AllStay K.is_of old new
+  pub engines : EnginesStay K.lies K.apart old new
+
 -- one more call can end, and one more turn be counted
-pub record AreFew (x : Parts) (process : ℕ) : Type 0 where
-  pub calls : (y : Process) → process_in x process ≡ Some y → y.ended < CALLS
-  pub turns : (y : Process) → process_in x process ≡ Some y → y.used < turns_per_call
+pub record AreFew {T M P : Type 0} (x : Parts T M P) (process : ℕ) : Type 0 where
+  pub calls : (y : Process P) → process_in x process ≡ Some y → y.ended < CALLS
+  pub turns : (y : Process P) → process_in x process ≡ Some y → y.used < turns_per_call
 
 -- the process after an effective turn in the name of its running call, which this is kept of
-abbrev pub counted : Process → kernel.Progress → Process
+abbrev pub counted : {P : Type 0} → Process P → kernel.Progress → Process P
 counted y c =
     cond (c.finished && nat_eq (length c.outstanding) 0) (record y { ended = y.ended + 1; used = 0; call = None })
     (record y { used = y.used + 1 })
@@ -170,18 +179,28 @@ counted y c =
 abbrev pub held_after : List (Option ℕ) → ℕ → kernel.Progress → List (Option ℕ)
 held_after held process c = cond (c.finished && nat_eq (length c.outstanding) 0) (slice_set held process None) held
 
+-- an effective turn in the name of the running call of the process was counted
+pub record CountsTurn {T M P : Type 0} (old new : Parts T M P) (process : ℕ) : Type 0 where
+  pub tables : new.tables ≡ old.tables
+  pub log : new.log ≡ old.log
+  pub others : OthersStay old new process
+  pub mine : (y : Process P) (c : kernel.Progress) → process_in old process ≡ Some y → y.call ≡ Some c →
+      process_in new process ≡ Some (counted y c)
+  pub disk : (y : Process P) (c : kernel.Progress) → process_in old process ≡ Some y → y.call ≡ Some c →
+      new.disk ≡ record old.disk { held = held_after old.disk.held process c }
+
 -- an effective turn of this row of the actor, in the name of the running call of the process, was counted and told
-pub record EndsTurn (old new : Parts) (process actor : ℕ) (row : Row) : Type 0 where
+pub record EndsTurn {T M P : Type 0} (old new : Parts T M P) (process actor : ℕ) (row : Row) : Type 0 where
   pub tables : new.tables ≡ old.tables
   pub log : AppendsEvent old.log (record { turn = old.log.turns; actor = actor; row = row }) new.log
   pub others : OthersStay old new process
-  pub mine : (y : Process) (c : kernel.Progress) → process_in old process ≡ Some y → y.call ≡ Some c →
+  pub mine : (y : Process P) (c : kernel.Progress) → process_in old process ≡ Some y → y.call ≡ Some c →
       process_in new process ≡ Some (counted y c)
-  pub disk : (y : Process) (c : kernel.Progress) → process_in old process ≡ Some y → y.call ≡ Some c →
+  pub disk : (y : Process P) (c : kernel.Progress) → process_in old process ≡ Some y → y.call ≡ Some c →
       new.disk ≡ record old.disk { held = held_after old.disk.held process c }
 
 -- the parts with this as the file that the process holds
-abbrev pub with_hold : Parts → ℕ → Option ℕ → Parts
+abbrev pub with_hold : {T M P : Type 0} → Parts T M P → ℕ → Option ℕ → Parts T M P
 with_hold x process file = record x { disk = record x.disk { held = slice_set x.disk.held process file } }
 
 -- the file, if any, is held by nobody, or by the process itself
@@ -203,9 +222,9 @@ IsRunning m process = IsSome (running m process)
 
 -- the answer is the file that the process holds after a turn of this row, unless its call ends, in each store of the
 -- disk: that of the call, or none
-abbrev pub IsHeldAfter : Parts → Call → ℕ → Row → Option ℕ → Type 0
-IsHeldAfter x call process row answer =
-    (y : Process) (c : kernel.Progress) (s : Store) (at : At) (before : List Entry) →
+abbrev pub IsHeldAfter : {T M P : Type 0} → Parts T M P → Call → ℕ → Row → Option ℕ → Type 0
+IsHeldAfter {T} {M} {P} x call process row answer =
+    (y : Process P) (c : kernel.Progress) (s : Store) (at : At) (before : List Entry) →
     process_in x process ≡ Some y → y.call ≡ Some c → IsDiskOf x.disk s → c.process ≡ at.process →
     AreEntriesOf c before →
     answer ≡ cond (holds_after call row) (file_of s (record { call = c.call; at = at; before = before })) None
@@ -236,8 +255,9 @@ pub record TableChange : Type 0 where
 
 -- the entry of an act was added to the state, whose tables these are, by this process; the disk shows the store after
 -- it, and these are the cells that an attach hands in
-pub record CanChangeTables (x : Parts) (g : TableChange) (e : Entry) (cells : List Cell) : Type 0 where
-  pub tables : g.before.tables ≡ tables_of x.tables
+pub record CanChangeTables {T M P : Type 0} (K : sides.Ghosts T P) (x : Parts T M P) (g : TableChange) (e : Entry)
+    (cells : List Cell) : Type 0 where
+  pub tables : K.shows x.tables g.before.tables
   pub reached : Reached g.before
   pub place : Place
   pub running_is : running g.before g.process ≡ Some place

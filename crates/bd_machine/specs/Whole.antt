@@ -3,6 +3,6 @@ use Rattle.bd_base.specs.declared.script.Script.{Script}
 use Rattle.bd_machine.specs.declared.parts.Parts.{Parts}
 
 -- the script, and the parts that turns change
-pub record Whole : Type 0 where
+pub record Whole (T M P : Type 0) : Type 0 where
   pub script : Script
-  pub parts : Parts
+  pub parts : Parts T M P

@@ -7,7 +7,7 @@ ghost use Rattle.bd_turns.specs.Turns.{cells_of_part};
 
 use bd_base::{BLOCK_SIZE, BlockNo, Cell, FileId, OutOfMemory, PART_BLOCKS, Part};
 use bd_kernel::Disk;
-use bd_medium::Plain;
+use bd_medium::Medium;
 use std::alloc::Global;
 
 /// The cell of a block of a file with this size.
@@ -23,9 +23,9 @@ fn cell_of(size: u64, index: usize, block: BlockNo) -> Cell
 }
 
 /// The cells of the blocks of a part of a file: those are at most 512, whatever the size of the file.
-pub(crate) fn cells_of_part(
+pub(crate) fn cells_of_part<M: Medium>(
     alloc: Global,
-    disk: &Disk<Plain>,
+    disk: &Disk<M>,
     file: FileId,
     part: Part,
 ) -> Result<Vec<Cell>, OutOfMemory>

@@ -10,23 +10,34 @@ ghost use Rattle.bd_turns.specs.Reached.{IsActor};
 
 use crate::machine::Machine;
 use bd_base::{Actor, Item, OutOfMemory, ScheduleLine, Script, Volume};
+use bd_medium::Plain;
+use bd_tables::PlainTables;
 use std::alloc::Global;
+
+/// A machine over tables for one thread and a device in memory.
+pub type PlainMachine = Machine<PlainTables, Plain>;
 
 /// Runs the script over the volume: it takes the turns of the schedule, and then turns in rounds until all calls have
 /// ended. The only error is that no memory is found.
-pub fn replay(alloc: Global, volume: Volume, script: Script) -> Result<Machine, OutOfMemory>
+pub fn replay(alloc: Global, volume: Volume, script: Script) -> Result<PlainMachine, OutOfMemory>
     requires volume { IsSoundVolume volume }
     requires script { IsWithinLimits script }
     requires built { AreBuilt script }
     ensures { IfOk result (λ machine. HasRun volume script (shown machine)) }
 {
-    let mut machine = Machine::boot(alloc, volume, script)?;
+    let Volume {
+        total,
+        inodes,
+        bytes,
+    } = volume;
+    let tables = PlainTables::new(alloc, script.processes.len() as u8)?;
+    let mut machine = Machine::boot(alloc, total, inodes, script, tables, Plain::new(bytes))?;
     run(&mut machine)?;
     Ok(machine)
 }
 
 /// Takes all turns.
-fn run(machine: &mut Machine) -> Result<(), OutOfMemory>
+fn run(machine: &mut PlainMachine) -> Result<(), OutOfMemory>
     ghost task: { Task }
     requires task { IsTask task }
     requires booted { shown machine.old ≡ after_turns task 0 }
@@ -38,7 +49,7 @@ fn run(machine: &mut Machine) -> Result<(), OutOfMemory>
 }
 
 /// Takes the turns of the schedule.
-fn take_scheduled(machine: &mut Machine) -> Result<(), OutOfMemory>
+fn take_scheduled(machine: &mut PlainMachine) -> Result<(), OutOfMemory>
     ghost task: { Task }
     requires task { IsTask task }
     requires booted { shown machine.old ≡ after_turns task 0 }
@@ -51,7 +62,7 @@ fn take_scheduled(machine: &mut Machine) -> Result<(), OutOfMemory>
 }
 
 /// Takes the turns of a line of the schedule.
-fn take_line(machine: &mut Machine, line: usize) -> Result<(), OutOfMemory>
+fn take_line(machine: &mut PlainMachine, line: usize) -> Result<(), OutOfMemory>
     ghost task: { Task }
     requires task { IsTask task }
     requires within { line < length task.script.schedule }
@@ -66,7 +77,7 @@ fn take_line(machine: &mut Machine, line: usize) -> Result<(), OutOfMemory>
 }
 
 /// A line of the schedule.
-fn line_of(machine: &Machine, line: usize) -> &ScheduleLine
+fn line_of(machine: &PlainMachine, line: usize) -> &ScheduleLine
     requires { line < length (state_of machine.now).script.schedule }
     ensures { slice_get (state_of machine.now).script.schedule line ≡ Some result.now }
 {
@@ -74,7 +85,7 @@ fn line_of(machine: &Machine, line: usize) -> &ScheduleLine
 }
 
 /// Takes the turns of an item.
-fn take_turns(machine: &mut Machine, item: Item) -> Result<(), OutOfMemory>
+fn take_turns(machine: &mut PlainMachine, item: Item) -> Result<(), OutOfMemory>
     ghost g: { ItemAt }
     requires item { IsItemAt g item }
     requires before { shown machine.old ≡ after_turns g.task g.turns }
@@ -87,7 +98,7 @@ fn take_turns(machine: &mut Machine, item: Item) -> Result<(), OutOfMemory>
 }
 
 /// Takes turns in rounds, until all calls have ended.
-fn take_rounds(machine: &mut Machine) -> Result<(), OutOfMemory>
+fn take_rounds(machine: &mut PlainMachine) -> Result<(), OutOfMemory>
     ghost task: { Task }
     requires task { IsTask task }
     requires scheduled { shown machine.old ≡ after_turns task (length (scheduled task.script)) }
@@ -103,7 +114,7 @@ fn take_rounds(machine: &mut Machine) -> Result<(), OutOfMemory>
 }
 
 /// Takes a turn of an actor, whatever it answers.
-fn take_turn(machine: &mut Machine, actor: Actor) -> Result<(), OutOfMemory>
+fn take_turn(machine: &mut PlainMachine, actor: Actor) -> Result<(), OutOfMemory>
     requires { IsActor (state_of machine.old) actor }
     ensures { OnOk result (shown machine.new ≡ stepped (shown machine.old) actor) }
 {

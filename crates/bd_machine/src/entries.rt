@@ -14,7 +14,7 @@ use bd_base::{
 };
 use bd_entry::{Act, Entry};
 use bd_kernel::{Disk, bytes_for_piece, does_write, piece_of};
-use bd_medium::Plain;
+use bd_medium::Medium;
 use bd_pieces::Piece;
 use std::alloc::Global;
 
@@ -27,9 +27,9 @@ fn number(fd: Option<u8>) -> Fd
 }
 
 /// The entry that an action adds, by the call at this place.
-pub(crate) fn entry_of_act(
+pub(crate) fn entry_of_act<M: Medium>(
     alloc: Global,
-    disk: &Disk<Plain>,
+    disk: &Disk<M>,
     call: &Call,
     at: At,
     fd: Option<u8>,
@@ -101,7 +101,7 @@ fn opened_entry(call: &Call, at: At, file: FileId, fd: Fd) -> Entry
 }
 
 /// The entry of a create.
-fn created_entry(disk: &Disk<Plain>, call: &Call, at: At) -> Result<Entry, OutOfMemory>
+fn created_entry<M: Medium>(disk: &Disk<M>, call: &Call, at: At) -> Result<Entry, OutOfMemory>
     ghost g: { AddedAt }
     requires { IsEntryOf disk.now call.now at (fd_of g.place) Created g }
     ensures { IfOk result (λ entry. entry ≡ g.entry) }
@@ -118,7 +118,7 @@ fn created_entry(disk: &Disk<Plain>, call: &Call, at: At) -> Result<Entry, OutOf
 }
 
 /// The entry of the release of a file's last block.
-fn released_entry(disk: &Disk<Plain>, at: At, file: FileId) -> Entry
+fn released_entry<M: Medium>(disk: &Disk<M>, at: At, file: FileId) -> Entry
     ghost g: { AddedAt }
     requires { IsEntryOf disk.now g.place.call at (fd_of g.place) (Release file) g }
     ensures { result ≡ g.entry }
@@ -134,7 +134,7 @@ fn released_entry(disk: &Disk<Plain>, at: At, file: FileId) -> Entry
 }
 
 /// The entry of the removal of a file.
-fn unlinked_entry(disk: &Disk<Plain>, call: &Call, at: At) -> Entry
+fn unlinked_entry<M: Medium>(disk: &Disk<M>, call: &Call, at: At) -> Entry
     ghost g: { AddedAt }
     requires { IsEntryOf disk.now call.now at (fd_of g.place) Unlinked g }
     ensures { result ≡ g.entry }
@@ -149,9 +149,9 @@ fn unlinked_entry(disk: &Disk<Plain>, call: &Call, at: At) -> Entry
 }
 
 /// The entry of an access of the kernel.
-fn access_entry(
+fn access_entry<M: Medium>(
     alloc: Global,
-    disk: &Disk<Plain>,
+    disk: &Disk<M>,
     call: &Call,
     at: At,
     fd: Fd,
@@ -196,9 +196,9 @@ fn block_at(inode: &Inode, index: u32) -> Option<BlockNo>
 }
 
 /// The bytes of a piece as far as the file goes; none where it has no such block.
-fn bytes_read(
+fn bytes_read<M: Medium>(
     alloc: Global,
-    disk: &Disk<Plain>,
+    disk: &Disk<M>,
     block: Option<BlockNo>,
     cut: Piece,
     size: u64,

@@ -3,6 +3,7 @@
 
 mod built;
 mod cells;
+mod commands;
 mod course;
 mod engine;
 mod entries;
@@ -13,9 +14,11 @@ mod parts;
 mod process;
 mod processor;
 mod run;
+mod told;
 
 pub use bd_turns::{Event, EventList, Row, Turn, Wait};
 pub use built::is_built;
-pub use course::replay;
+pub use course::{PlainMachine, replay};
 pub use machine::Machine;
 pub use run::Run;
+pub use told::{Fell, InHand};

@@ -6,7 +6,6 @@ ghost use Rattle.bd_machine.specs.declared.process.Process.{Process};
 use bd_base::OutOfMemory;
 use bd_kernel::KernelCall;
 use bd_queue_pair::{Command, DoneKind, QueuePair};
-use bd_tables::PlainPass;
 use std::alloc::Global;
 
 /// A command in hand, with what became of it.
@@ -19,6 +18,8 @@ pub(crate) struct Hand {
 /// What an engine does next with the command in its hand.
 #[derive(Clone, Copy, Debug, PartialEq, Eq)]
 pub(crate) enum Phase {
+    /// It enters the key: the command was taken and nothing else.
+    Taken,
     Looking,
     Reading,
     Filling,
@@ -30,7 +31,7 @@ pub(crate) enum Phase {
 
 /// A process and its engine.
 #[derive(Drop)]
-pub(crate) struct Process {
+pub(crate) struct Process<P: Drop> {
     /// How many of its calls have ended.
     pub(crate) ended: u16,
     /// How many effective turns were taken in the name of its running call.
@@ -41,13 +42,13 @@ pub(crate) struct Process {
     pub(crate) hand: Option<Hand>,
     /// What its engine does next with the command in its hand.
     pub(crate) phase: Phase,
-    /// The pass with which its engine walks.
-    pub(crate) pass: Option<PlainPass>,
+    /// The pass with which its engine walks, where it does not go its own way.
+    pub(crate) pass: Option<P>,
 }
 
-impl Process {
+impl<P: Drop> Process<P> {
     /// Before the first turn. The only error is that no memory is found.
-    pub(crate) fn new(alloc: Global) -> Result<Process, OutOfMemory>
+    pub(crate) fn new(alloc: Global) -> Result<Process<P>, OutOfMemory>
         ensures ended { IfOk result (λ x. x.ended ≡ 0) }
         ensures used { IfOk result (λ x. x.used ≡ 0) }
         ensures call { IfOk result (λ x. x.call ≡ None) }
@@ -61,7 +62,7 @@ impl Process {
             call: None,
             queue: QueuePair::new(alloc)?,
             hand: None,
-            phase: Phase::Looking,
+            phase: Phase::Taken,
             pass: None,
         })
     }

@@ -7,8 +7,8 @@ ghost use Rattle.bd_entry.specs.declared.act.Act.TheVariants.{Poll, Submit as Su
 ghost use Rattle.bd_entry.specs.Calls.{Place, call_at, fd_of, piece_of_call};
 ghost use Rattle.bd_machine.specs.declared.process.Process.{Process};
 ghost use Rattle.bd_machine.specs.Shows.{IsCommandOf};
-ghost use Rattle.bd_machine.specs.Turns.{AreCellsFor, AttachesByOpen, CanChangeTables, HasBegun, HasCompletion, IsAt, IsHeldAfter, IsNextAct, IsRunning, IsWaitFor, Sight, StaysAt, TableChange, TookTurn, adds_entry, process_in};
-ghost use Rattle.bd_tables.specs.Plain.{tables_of};
+ghost use Rattle.bd_machine.specs.Turns.{AreCellsFor, AttachesByOpen, CanChangeTables, HasBegun, HasCompletion, IsAt, IsHeldAfter, IsNextAct, IsRunning, IsWaitFor, PassesStay, Sight, StaysAt, TableChange, TookTurn, adds_entry, process_in};
+ghost use Rattle.bd_tables.specs.Seen.{ShowsAfter};
 ghost use Rattle.bd_turns.specs.Processors.{row_of_entry};
 ghost use Rattle.bd_turns.specs.State.{State};
 ghost use Rattle.bd_turns.specs.Turns.{Waiting, holds_after, holds_throughout, may_write, outcome_of, tables_after};
@@ -22,21 +22,21 @@ use bd_base::{
 };
 use bd_entry::{Act, Entry};
 use bd_kernel::{KernelCall, does_write, piece_of, size_of};
-use bd_medium::Plain;
+use bd_medium::Medium;
 use bd_pieces::Piece;
 use bd_queue_pair::Command;
 use bd_tables::KernelSide;
 use bd_turns::{Row, Turn, Wait};
 use std::alloc::Global;
 
-impl Parts {
+impl<T: KernelSide, M: Medium> Parts<T, M> {
     /// One turn of a processor.
     pub(crate) fn step_processor(&mut self, script: &Script, p: Pid) -> Result<Turn, OutOfMemory>
         ghost m: { State }
-        requires state { IsAt script.now self.old m }
+        requires state { IsAt T.Tables script.now self.old m }
         requires process { p < length script.now.processes }
-        ensures ok { IfOk result (λ turn. TookTurn script.now self.old self.new m p turn) }
-        ensures err { OnErr result (StaysAt script.now self.old self.new m) }
+        ensures ok { IfOk result (λ turn. TookTurn T.Tables script.now self.old self.new m p turn) }
+        ensures err { OnErr result (StaysAt T.Tables script.now self.old self.new m) }
     {
         let calls = script.processes.as_slice()[p.get() as usize].calls.len();
         if usize::from(self.processes[p.get() as usize].ended) == calls {
@@ -56,22 +56,10 @@ impl Parts {
         }
     }
 
-    /// Where the running call of the process is in the script.
-    pub(crate) fn at(&self, p: Pid) -> At
-        requires { p < length self.now.processes.items }
-        ensures { (y : Process) → process_in self.now p ≡ Some y
-            → result ≡ record { process = p; call = y.ended } }
-    {
-        At {
-            process: p,
-            call: self.processes[p.get() as usize].ended,
-        }
-    }
-
     /// What the running call waits for where it is not begun, if anything. Only then is memory taken for it.
     fn wait_to_begin(&self, script: &Script, p: Pid) -> Option<Wait>
         ghost m: { State }
-        requires state { IsAt script.now self.now m }
+        requires state { IsAt T.Tables script.now self.now m }
         requires process { p < length script.now.processes }
         requires running { IsRunning m p }
         ensures { IfSome result (λ wait. outcome_of m p ≡ Waiting wait) }
@@ -90,10 +78,10 @@ impl Parts {
     /// The running call is begun, where it is not yet.
     fn begin(&mut self, script: &Script, p: Pid) -> Result<(), OutOfMemory>
         ghost m: { State }
-        requires state { IsAt script.now self.old m }
+        requires state { IsAt T.Tables script.now self.old m }
         requires process { p < length script.now.processes }
         requires running { IsRunning m p }
-        ensures stays { StaysAt script.now self.old self.new m }
+        ensures stays { StaysAt T.Tables script.now self.old self.new m }
         ensures begun { OnOk result (HasBegun self.new p) }
     {
         if self.processes[p.get() as usize].call.is_some() {
@@ -109,7 +97,7 @@ impl Parts {
     /// What the running call, which was begun, does next.
     fn next_act(&self, p: Pid) -> Act
         ghost g: { Sight }
-        requires state { IsAt g.script self.now g.state }
+        requires state { IsAt T.Tables g.script self.now g.state }
         requires begun { HasBegun self.now p }
         ensures { IsNextAct g.state p result }
     {
@@ -120,11 +108,11 @@ impl Parts {
     /// The command of a piece is submitted.
     fn submit(&mut self, script: &Script, p: Pid, piece: u8) -> Result<Turn, OutOfMemory>
         ghost m: { State }
-        requires state { IsAt script.now self.old m }
+        requires state { IsAt T.Tables script.now self.old m }
         requires begun { HasBegun self.old p }
         requires act { IsNextAct m p (Submits piece) }
-        ensures ok { IfOk result (λ turn. TookTurn script.now self.old self.new m p turn) }
-        ensures err { OnErr result (StaysAt script.now self.old self.new m) }
+        ensures ok { IfOk result (λ turn. TookTurn T.Tables script.now self.old self.new m p turn) }
+        ensures err { OnErr result (StaysAt T.Tables script.now self.old self.new m) }
     {
         self.log.reserve()?;
         let call = call_at(script, self.at(p));
@@ -139,11 +127,11 @@ impl Parts {
     /// The oldest completion is taken, where one has come.
     fn poll(&mut self, p: Pid) -> Result<Turn, OutOfMemory>
         ghost g: { Sight }
-        requires state { IsAt g.script self.old g.state }
+        requires state { IsAt T.Tables g.script self.old g.state }
         requires begun { HasBegun self.old p }
         requires act { IsNextAct g.state p Poll }
-        ensures ok { IfOk result (λ turn. TookTurn g.script self.old self.new g.state p turn) }
-        ensures err { OnErr result (StaysAt g.script self.old self.new g.state) }
+        ensures ok { IfOk result (λ turn. TookTurn T.Tables g.script self.old self.new g.state p turn) }
+        ensures err { OnErr result (StaysAt T.Tables g.script self.old self.new g.state) }
     {
         let it = &self.processes[p.get() as usize];
         if !it.queue.has_completed() {
@@ -156,12 +144,12 @@ impl Parts {
     /// The oldest completion, which has come, is taken.
     fn take_completion(&mut self, p: Pid) -> Result<Turn, OutOfMemory>
         ghost g: { Sight }
-        requires state { IsAt g.script self.old g.state }
+        requires state { IsAt T.Tables g.script self.old g.state }
         requires begun { HasBegun self.old p }
         requires act { IsNextAct g.state p Poll }
         requires come { HasCompletion self.old p }
-        ensures ok { IfOk result (λ turn. TookTurn g.script self.old self.new g.state p turn) }
-        ensures err { OnErr result (StaysAt g.script self.old self.new g.state) }
+        ensures ok { IfOk result (λ turn. TookTurn T.Tables g.script self.old self.new g.state p turn) }
+        ensures err { OnErr result (StaysAt T.Tables g.script self.old self.new g.state) }
     {
         self.log.reserve()?;
         let it = &mut self.processes[p.get() as usize];
@@ -174,12 +162,12 @@ impl Parts {
     /// An action that adds an entry is carried out.
     fn carry_out(&mut self, script: &Script, p: Pid, act: Act) -> Result<Turn, OutOfMemory>
         ghost m: { State }
-        requires state { IsAt script.now self.old m }
+        requires state { IsAt T.Tables script.now self.old m }
         requires begun { HasBegun self.old p }
         requires act { IsNextAct m p act }
         requires adds { adds_entry act ≡ true }
-        ensures ok { IfOk result (λ turn. TookTurn script.now self.old self.new m p turn) }
-        ensures err { OnErr result (StaysAt script.now self.old self.new m) }
+        ensures ok { IfOk result (λ turn. TookTurn T.Tables script.now self.old self.new m p turn) }
+        ensures err { OnErr result (StaysAt T.Tables script.now self.old self.new m) }
     {
         self.log.reserve()?;
         let call = call_at(script, self.at(p));
@@ -226,10 +214,11 @@ impl Parts {
     /// What the entry, which the disk shows already, changes in the tables.
     fn change_tables(&mut self, entry: &Entry, cells: &[Cell])
         ghost g: { TableChange }
-        requires { CanChangeTables self.old g entry.now cells.now }
-        ensures tables { tables_of self.new.tables ≡ tables_after g.after (tables_of self.old.tables) entry.now }
+        requires { CanChangeTables T.Tables self.old g entry.now cells.now }
+        ensures shown { ShowsAfter T.shows self.old.tables self.new.tables
+            (λ t. tables_after g.after t entry.now) }
         ensures same { self.new ≡ record self.old { tables = self.new.tables } }
-        ensures places { self.new.tables.places ≡ self.old.tables.places }
+        ensures passes { PassesStay T.Tables self.old.tables self.new.tables }
     {
         match entry {
             Entry::Attached { at, fd, part } => {

@@ -4,11 +4,6 @@ use Rattle.std.proofs.lemmas.Bool.{false≢true}
 use Rattle.std.proofs.lemmas.List.{nil_from_length}
 use Rattle.bd_entry.specs.Store.{Descriptor, Store, has_fragment, has_plain, lowest_unattached, next_part}
 
--- a test that says no where this holds
-pub not-iff : {P : Type 0} (b : Bool) → (b ≡ true) ↔ P → (not b ≡ true) ↔ (¬ P)
-not-iff true iff = (λ no. absurd (false≢true no), λ none. absurd (none (iff.0 refl)))
-not-iff false iff = (λ no holds. false≢true (iff.1 holds), λ none. refl)
-
 -- a list of no length is empty, and a test that finds nothing says so
 pub none-iff : (xs : List ℕ) (some none : Bool) → length xs ≡ 0 → some ≡ not none → (none ≡ true) ↔ ((xs ≡ []) × (some ≡ false))
 none-iff xs some true empty is = (λ no. (nil_from_length xs empty, is), λ both. refl)

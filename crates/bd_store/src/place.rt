@@ -11,7 +11,7 @@ ghost use Rattle.bd_entry.specs.Store.{limit_in, size_at};
 ghost use Rattle.bd_store.specs.Kept.{AtPlace, bare};
 
 use crate::store::PlainStore;
-use bd_base::{At, BLOCK_SIZE, BlockNo, Call, FileId, PART_BLOCKS};
+use bd_base::{At, BlockNo, Call, FileId, PART_BLOCKS};
 use bd_kernel::{Descriptor, fd_of_call};
 
 impl PlainStore {
@@ -73,13 +73,7 @@ impl PlainStore {
         ensures limit { result ≡ limit_in (bare self.now) file index }
         ensures in_block { result ≤ BLOCK_SIZE }
     {
-        match self.inode(file) {
-            Some(inode) if (index as usize) < inode.blocks.len() => {
-                let start = BLOCK_SIZE * u64::from(index);
-                BLOCK_SIZE.min(inode.size.saturating_sub(start))
-            }
-            _ => 0,
-        }
+        bd_kernel::limit_of(self.fs(), file, index)
     }
 
     /// The block of a file that has this index.

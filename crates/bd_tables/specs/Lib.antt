@@ -10,4 +10,5 @@ pub mod Plain
 pub mod Codes
 pub mod Passes
 pub mod RightMaps
+pub mod Seen
 pub mod Kept

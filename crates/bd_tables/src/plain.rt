@@ -6,7 +6,7 @@ ghost use Rattle.bd_tables.specs.declared.state.Walk.TheVariants.{Idle, Translat
 ghost use Rattle.bd_tables.specs.declared.request.Completion.{Completion};
 ghost use Rattle.bd_tables.specs.declared.request.Request.{Request};
 ghost use Rattle.bd_tables.specs.Answers.{Serves};
-ghost use Rattle.bd_tables.specs.Passes.{IsLent, process_of_pass, walk_of_pass};
+ghost use Rattle.bd_tables.specs.Passes.{IsLent, goes_apart, lies_in, process_of_pass, shows_whole, walk_of_pass};
 ghost use Rattle.bd_tables.specs.Plain.{LiesHere, kernel_of, new_plain, tables_of};
 ghost use Rattle.bd_tables.specs.State.{found_of, told_of};
 
@@ -122,6 +122,12 @@ impl Tables for PlainTables {
     ghost process = { process_of_pass };
 
     ghost is_of = { IsLent };
+
+    ghost lies = { lies_in };
+
+    ghost apart = { goes_apart };
+
+    ghost shows = { shows_whole };
 
     fn told(&self, pass: &PlainPass) -> Option<Completion> {
         // What the translation promises is told by these tables.

@@ -10,9 +10,10 @@ ghost use Rattle.bd_tables.specs.declared.state.RightState.TheVariants.{Cleared 
 ghost use Rattle.bd_tables.specs.declared.state.Walk.{Walk};
 ghost use Rattle.bd_tables.specs.declared.state.Walk.TheVariants.{Idle, Entered, Translated};
 ghost use Rattle.bd_tables.specs.Answers.{AfterEnter, AfterLook, AfterRead, AllStay, GivesBack, IsAnswered, IsEntered, IsTranslated, Serves};
-ghost use Rattle.bd_tables.specs.Effects.{none_swept};
+ghost use Rattle.bd_tables.specs.Effects.{attach, clear, detach, drain, none_swept, put_entry, raise_limit, sweep};
 ghost use Rattle.bd_tables.specs.Kernel.{AgreesWith, Attaches, HasLimit, IsCleared, IsConfirmed, IsDrained, IsEmptyEntry, IsEntryUpTo, IsFullFor, IsLimit, IsOn, IsSweptWhole, KernelState, KeyIs, entry_filled, entry_raised, key_detached, key_in_state, line_swept};
-ghost use Rattle.bd_tables.specs.State.{found_of, pair_for, told_of};
+ghost use Rattle.bd_tables.specs.Seen.{EnginesStay, IsKernelOf, ShowsAfter};
+ghost use Rattle.bd_tables.specs.State.{TableState, found_of, pair_for, told_of};
 
 use crate::request::{Completion, Drained, Looked, Request, Walked};
 use bd_base::{Cell, FileId, Found, Key, Steps};
@@ -22,8 +23,8 @@ use std::sync::ledger::Ledger;
 /// Tables with passes: the tokens of engines.
 ///
 /// A pass is of one engine and of one set of tables, and shows where the engine is in its walk.
-pub trait Tables {
-    type Pass;
+pub trait Tables: Drop {
+    type Pass: Drop;
 
     /// Where the engine of the pass is, and what it holds.
     ghost walk: { Self.Pass → Walk };
@@ -33,6 +34,15 @@ pub trait Tables {
 
     /// The pass is of these tables, and not in them.
     ghost is_of: { Self → Self.Pass → Type 0 };
+
+    /// The pass of this process lies in the tables.
+    ghost lies: { Self → ℕ → Type 0 };
+
+    /// The engines go their own way: their passes are with them alone.
+    ghost apart: { Self → Type 0 };
+
+    /// The tables show this state, as far as they hold it.
+    ghost shows: { Self → TableState → Type 0 };
 
     /// The translation that the engine holds: Some exactly where it holds one.
     fn told(&self, pass: &Self::Pass) -> Option<Completion>
@@ -65,13 +75,19 @@ pub trait KernelSide: Tables {
             (Attaches (kernel self.old) key file write cells.now (kernel self.new)) }
         ensures full { IsErr result ↔ IsFullFor (kernel self.old).book (pair_for file key) }
         ensures err { OnErr result (kernel self.new ≡ kernel self.old) }
-        ensures passes { AllStay Self.is_of self.old self.new };
+        ensures shown { OnOk result
+            (ShowsAfter Self.shows self.old self.new (λ t. attach t key file write cells.now)) }
+        ensures same_shown { OnErr result (ShowsAfter Self.shows self.old self.new (λ t. t)) }
+        ensures passes { AllStay Self.is_of self.old self.new }
+        ensures engines { EnginesStay Self.lies Self.apart self.old self.new };
 
     /// Takes the right of a key that is On out of its directory entry.
     fn clear(&mut self, key: Key)
         requires { KeyIs IsOn (kernel self.old) key }
         ensures cleared { kernel self.new ≡ key_in_state (kernel self.old) key IsInCleared }
-        ensures passes { AllStay Self.is_of self.old self.new };
+        ensures shown { ShowsAfter Self.shows self.old self.new (λ t. clear t key) }
+        ensures passes { AllStay Self.is_of self.old self.new }
+        ensures engines { EnginesStay Self.lies Self.apart self.old self.new };
 
     /// Whether no engine is in a cleared key any more: Yes exactly where the count that is read in this call is 0.
     fn drained(&mut self, key: Key) -> Drained
@@ -80,35 +96,48 @@ pub trait KernelSide: Tables {
             → kernel self.new ≡ key_in_state (kernel self.old) key (IsInDrained none_swept) }
         ensures not_yet { (count : ℕ) → result ≡ Drained.NotYet count
             → (0 < count) × (kernel self.new ≡ kernel self.old) }
-        ensures passes { AllStay Self.is_of self.old self.new };
+        ensures shown { result ≡ Drained.Yes
+            → ShowsAfter Self.shows self.old self.new (λ t. drain t key) }
+        ensures same_shown { (count : ℕ) → result ≡ Drained.NotYet count
+            → ShowsAfter Self.shows self.old self.new (λ t. t) }
+        ensures passes { AllStay Self.is_of self.old self.new }
+        ensures engines { EnginesStay Self.lies Self.apart self.old self.new };
 
     /// Empties a line, from 0 to 15, where it names the key, which was drained since it was cleared.
     fn sweep(&mut self, line: u8, key: Key)
         requires line { line < LINES }
         requires drained { KeyIs IsDrained (kernel self.old) key }
         ensures swept { kernel self.new ≡ line_swept (kernel self.old) line key }
-        ensures passes { AllStay Self.is_of self.old self.new };
+        ensures shown { ShowsAfter Self.shows self.old self.new (λ t. sweep t line key) }
+        ensures passes { AllStay Self.is_of self.old self.new }
+        ensures engines { EnginesStay Self.lies Self.apart self.old self.new };
 
     /// Detaches a key, all of whose 16 lines were swept since it was drained. The fragment of its part is dropped
     /// exactly where no other key uses it.
     fn detach(&mut self, key: Key)
         requires { KeyIs IsSweptWhole (kernel self.old) key }
         ensures detached { kernel self.new ≡ key_detached (kernel self.old) key }
-        ensures passes { AllStay Self.is_of self.old self.new };
+        ensures shown { ShowsAfter Self.shows self.old self.new (λ t. detach t key) }
+        ensures passes { AllStay Self.is_of self.old self.new }
+        ensures engines { EnginesStay Self.lies Self.apart self.old self.new };
 
     /// Fills the empty entry of block `index` of a file where its part has a fragment, and else does nothing.
     fn put_entry(&mut self, file: FileId, index: u32, cell: Cell)
         requires empty { IsEmptyEntry (kernel self.old).book file index }
         requires limit { IsLimit cell.limit }
         ensures filled { kernel self.new ≡ entry_filled (kernel self.old) file index cell }
-        ensures passes { AllStay Self.is_of self.old self.new };
+        ensures shown { ShowsAfter Self.shows self.old self.new (λ t. put_entry t file index cell) }
+        ensures passes { AllStay Self.is_of self.old self.new }
+        ensures engines { EnginesStay Self.lies Self.apart self.old self.new };
 
     /// Raises the limit of the entry of block `index` of a file where its part has a fragment, and else does nothing.
     fn raise_limit(&mut self, file: FileId, index: u32, limit: u16)
         requires filled { IsEntryUpTo (kernel self.old).book file index limit }
         requires limit { limit ≤ BLOCK_SIZE }
         ensures raised { kernel self.new ≡ entry_raised (kernel self.old) file index limit }
-        ensures passes { AllStay Self.is_of self.old self.new };
+        ensures shown { ShowsAfter Self.shows self.old self.new (λ t. raise_limit t file index limit) }
+        ensures passes { AllStay Self.is_of self.old self.new }
+        ensures engines { EnginesStay Self.lies Self.apart self.old self.new };
 
     /// Whether the key is attached.
     fn attached(&self, key: Key) -> bool
@@ -126,7 +155,12 @@ pub trait KernelSide: Tables {
         ensures confirmed { IsConfirmed (kernel self.new) (Self.walk result) }
         ensures same_walk { Self.walk result ≡ Self.walk pass }
         ensures same_kernel { kernel self.new ≡ kernel self.old }
-        ensures given_back { GivesBack Self.is_of Self.process self.old self.new pass result };
+        ensures same_shown { ShowsAfter Self.shows self.old self.new (λ t. t) }
+        ensures given_back { GivesBack Self.is_of Self.process self.old self.new pass result }
+        ensures engines { EnginesStay Self.lies Self.apart self.old self.new };
+
+    /// What they show is what the kernel's side sees.
+    ghost shown_kernel: { (x : Self) (t : TableState) → Self.shows x t → IsKernelOf (kernel x) t };
 }
 
 /// The engines' side. Each call is one operation on a word of the tables, which `steps` counts.

@@ -4,16 +4,15 @@ ghost use Rattle.bd_base.specs.declared.script.Call.{Call};
 ghost use Rattle.bd_base.specs.Scripts.{IsCall};
 ghost use Rattle.bd_entry.specs.Calls.{at_of, does_write, has_cleared};
 ghost use Rattle.bd_entry.specs.Refusals.{descriptor_of};
-ghost use Rattle.bd_entry.specs.RulesOfRights.{HasNoRights, HasRights, LowersWhereTruncates, MayFind, MayMiss, Stands, TheDescriptor, ThePiece, part_of};
+ghost use Rattle.bd_entry.specs.RulesOfRights.{HasNoRights, HasRights, LowersWhereTruncates, MayMiss, Stands, TheDescriptor, ThePiece, part_of};
 ghost use Rattle.bd_entry.specs.Store.{descriptor_at, has_fragment, has_part, lowest_unattached, next_part, size_in};
 ghost use Rattle.bd_store.specs.Kept.{AtPlace, Judges, bare};
 
 use crate::place::part_of;
 use crate::store::PlainStore;
-use bd_base::{At, BLOCK_SIZE, Call, Fd, FileId, Found, How, Mode, Part, Pid, Way};
+use bd_base::{At, Call, Fd, FileId, Found, How, Part, Pid, Way};
 use bd_entry::Entry;
-use bd_kernel::{Descriptor, does_write, lowest_unattached, next_part, piece_of};
-use bd_pieces::Piece;
+use bd_kernel::{Descriptor, lowest_unattached, may_miss, next_part, stands};
 
 impl PlainStore {
     /// Whether the entry keeps the rule of rights.
@@ -170,36 +169,15 @@ impl PlainStore {
         ensures { AtPlace self.now call.now at.now (λ s p. (result ≡ true)
             ↔ ThePiece p number (MayMiss s (does_write p.call) (descriptor_of s p) found)) }
     {
-        let Some(piece) = piece_of(call, number) else {
-            return false;
-        };
-        match self.descriptor_of(call, at) {
-            Some(descriptor) => self.may_find(does_write(call), descriptor, piece, found),
-            None => found == Found::NoDirectory,
-        }
-    }
-
-    /// Whether the walk of a piece may have found this by an open descriptor.
-    fn may_find(&self, writes: bool, descriptor: &Descriptor, piece: Piece, found: Found) -> bool
-        ensures { (result ≡ true) ↔ MayFind (bare self.now) writes descriptor.now piece found }
-    {
-        let part = part_of(piece.index);
-        let attached = descriptor.attached.contains(part);
-        let allowed = !writes || descriptor.mode == Mode::Rw;
-        let start = BLOCK_SIZE * u64::from(piece.index);
-        match found {
-            Found::NoDirectory => !stands(descriptor, part),
-            Found::NoRight => attached && !allowed,
-            Found::NoEntry => attached && allowed && descriptor.known <= start,
-            Found::Beyond(limit) => {
-                attached
-                    && allowed
-                    && 1 <= limit
-                    && limit < piece.range.hi
-                    && u64::from(limit) <= self.limit_of(descriptor.file, piece.index)
-                    && descriptor.known <= start + u64::from(limit)
-            }
-        }
+        may_miss(
+            self.fs(),
+            self.descriptors(),
+            call,
+            at.process,
+            self.running(at.process),
+            number,
+            found,
+        )
     }
 
     /// Whether a size that lowers that of the descriptor's file meets no right on it.
@@ -225,11 +203,4 @@ impl PlainStore {
             None => false,
         }
     }
-}
-
-/// Whether the right on a part is attached and not cleared.
-fn stands(descriptor: &Descriptor, part: u64) -> bool
-    ensures { (result ≡ true) ↔ Stands part descriptor.now }
-{
-    descriptor.attached.contains(part) && !descriptor.cleared.contains(part)
 }

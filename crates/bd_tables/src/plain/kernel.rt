@@ -10,6 +10,7 @@ ghost use Rattle.bd_tables.specs.Kernel.{AgreesWith, Attaches, HasLimit, IsClear
 ghost use Rattle.bd_tables.specs.Kept.{fragment_of};
 ghost use Rattle.bd_file_table.specs.Fragments.{pair_with};
 ghost use Rattle.bd_tables.specs.Passes.{IsLent, process_of_pass};
+ghost use Rattle.bd_tables.specs.Passes.{plain_kernel};
 ghost use Rattle.bd_tables.specs.Plain.{drained_of, kernel_of, tables_of};
 ghost use Rattle.bd_tables.specs.State.{engines_in, pair_for};
 
@@ -151,4 +152,6 @@ impl KernelSide for PlainTables {
         let _ = &self.places;
         pass
     }
+
+    ghost shown_kernel = { plain_kernel };
 }

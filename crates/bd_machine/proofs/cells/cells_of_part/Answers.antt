@@ -9,7 +9,7 @@ use Rattle.bd_machine.proofs.cells.cells_of_part.Goals.{in-Some+else-loop-index-
 use Rattle.bd_machine.proofs.cells.cells_of_part.Goals as goal
 
 pub loop-index-preserved : goal.loop-index-preserved
-loop-index-preserved c =
+loop-index-preserved g c =
     let there : inode_at c.args.disk.now.files c.args.file ≡ Some c.in-Some.inode.now =
     ap (λ (fs : Files). inode_at fs.files c.args.file) (sym c.fs.ensures) ∙ sym c.inode.ensures.found ∙ ap option_copied c.in-Some.is in
     cells_from-step (store_on c.args.disk.now) c.args.file c.min-first.result c.loop-index.index c.in-Some.inode.now
@@ -18,7 +18,7 @@ loop-index-preserved c =
     c.loop-index.invariant
 
 pub returns : goal.returns
-returns c = λ s valid is.
+returns g c = λ s valid is.
     elim c.match-inode.branch [
       | in-Some+else-loop-index-test w ↦
           let there : inode_at c.args.disk.now.files c.args.file ≡ Some w.in-Some.inode.now =

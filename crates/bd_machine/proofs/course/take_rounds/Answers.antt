@@ -2,6 +2,8 @@ use Rattle.std.proofs.Common.{◌≡◌, ◌+◌, ◌*◌, ◌≤◌, ℕ, lengt
 use Rattle.std.proofs.Math.Facts.{Fits-of_lt}
 use Rattle.bd_base.specs.declared.script.Script.{Script}
 use Rattle.bd_machine.specs.Machine.{Progress, shown, stepped}
+use Rattle.bd_machine.proofs.ShowingMachine.{of_state}
+use Rattle.bd_turns.specs.Turns.{all_ended}
 use Rattle.bd_machine.specs.Tasks.{IsTask, Task, after_turns}
 use Rattle.bd_machine.proofs.CourseRounds.{actor_made, next_fits, rounds_begin, rounds_end, rounds_go_on}
 use Rattle.bd_machine.proofs.CourseTurns.{script_there}
@@ -45,8 +47,10 @@ loop-machine-smaller g c =
     let p = shown c.loop-machine.machine in
     let actors = 2 * c.len.result + 1 in
     let made = actor_made c.loop-machine.next c.unwrap.result c.new.result c.new.ensures c.unwrap.ensures in
-    let more = rounds_go_on g.task p (shown c.take_turn.new.machine) c.loop-machine.next actors c.requires.0 c.loop-machine.invariant
-    (sym c.finished.ensures.ended ∙ c.loop-machine-test.true) (c.in_ok-take_turn.ensures ∙ ap (stepped p) made) in
+    let more = rounds_go_on g.task p (shown c.take_turn.new.machine) c.loop-machine.next actors c.requires.0
+    c.loop-machine.invariant
+    (sym (of_state c.loop-machine.machine (λ m. c.finished.result ≡ all_ended m) c.finished.ensures.ended)
+    ∙ c.loop-machine-test.true) (c.in_ok-take_turn.ensures ∙ ap (stepped p) made) in
     more.fewer
 
 pub loop-machine-preserved : goal.loop-machine-preserved
@@ -54,11 +58,14 @@ loop-machine-preserved g c =
     let p = shown c.loop-machine.machine in
     let actors = 2 * c.len.result + 1 in
     let made = actor_made c.loop-machine.next c.unwrap.result c.new.result c.new.ensures c.unwrap.ensures in
-    let more = rounds_go_on g.task p (shown c.take_turn.new.machine) c.loop-machine.next actors c.requires.0 c.loop-machine.invariant
-    (sym c.finished.ensures.ended ∙ c.loop-machine-test.true) (c.in_ok-take_turn.ensures ∙ ap (stepped p) made) in
+    let more = rounds_go_on g.task p (shown c.take_turn.new.machine) c.loop-machine.next actors c.requires.0
+    c.loop-machine.invariant
+    (sym (of_state c.loop-machine.machine (λ m. c.finished.result ≡ all_ended m) c.finished.ensures.ended)
+    ∙ c.loop-machine-test.true) (c.in_ok-take_turn.ensures ∙ ap (stepped p) made) in
     more.rounds
 
 pub returns : goal.returns
 returns g c =
     rounds_end g.task (shown c.loop-machine.machine) c.loop-machine.next (2 * c.len.result + 1) c.loop-machine.invariant
-    (sym c.finished.ensures.ended ∙ c.loop-machine-test.false)
+    (sym (of_state c.loop-machine.machine (λ m. c.finished.result ≡ all_ended m) c.finished.ensures.ended)
+    ∙ c.loop-machine-test.false)

@@ -30,7 +30,7 @@ file_at g c =
 
 pub unwrap-inode-requires : goal.unwrap-inode-requires
 unwrap-inode-requires g c =
-    let file = access_file _ _ _ _ _ _ _ c.unwrap.result.now c.requires (opened g c) in
+    let file = access_file _ _ _ _ _ _ _ c.unwrap.result.now c.requires.1 (opened g c) in
     there c.inode.result file.0 (sym (file_at g c) ∙ file.1)
 
 block : (g : _) (c : goal.After-block_at g) (number : ℕ) → c.block_at.result ≡ Some number →
@@ -48,7 +48,7 @@ block g c number is =
     let index : c.cut.inside.index ≡ c.unwrap-cut.result.index = ap (λ (p : Piece). p.index) c.cut.view_is in
     let found : slice_get c.unwrap-inode.result.now.blocks c.unwrap-cut.result.index ≡ Some number =
     ap (λ (i : ℕ). slice_get c.unwrap-inode.result.now.blocks i) (sym index) ∙ sym c.block_at.ensures ∙ is in
-    access_block _ _ _ _ _ _ _ c.unwrap.result.now c.unwrap-inode.result.now c.unwrap-cut.result number c.requires open_is file_is cut_is found
+    access_block _ _ _ _ _ _ _ c.unwrap.result.now c.unwrap-inode.result.now c.unwrap-cut.result number c.requires.1 open_is file_is cut_is found
 
 pub bytes_read-requires-clause-there : goal.bytes_read-requires-clause-there
 bytes_read-requires-clause-there g c = λ number is. (block g c number is).there

@@ -5,9 +5,10 @@ use Rattle.bd_entry.specs.History.{InOrder, Legal}
 use Rattle.bd_entry.specs.Store.{Store, start_store}
 use Rattle.bd_image.specs.Volumes.{image_of}
 use Rattle.bd_machine.specs.Machine.{HasRun, IsLeft, Progress, shown}
+use Rattle.bd_machine.proofs.ShowingMachine.{of_state}
 use Rattle.bd_turns.specs.declared.turn.Event.{Event}
 use Rattle.bd_turns.specs.Course.{IsCourse, visible}
-use Rattle.bd_turns.specs.State.{boot_state}
+use Rattle.bd_turns.specs.State.{State, boot_state}
 use Rattle.bd_top.specs.Runs.{run_text}
 use Rattle.bd_top.proofs.replay.run_script.Goals as goal
 
@@ -20,6 +21,8 @@ returns c =
     let run = c.in_ok-volume.field-0 in
     let left : IsLeft m run = c.in_ok-volume.ensures in
     let journal_is : m.state.journal ≡ run.journal = sym left.journal in
+    let journal_read : c.journal.result.now ≡ m.state.journal =
+    of_state c.in_ok-machine.machine (λ (state : State). c.journal.result.now ≡ state.journal) c.journal.ensures.journal in
     let trace_is : m.trace ≡ run.trace = sym left.trace in
     record {
       store = m.state.store;
@@ -35,6 +38,6 @@ returns c =
       text_is =
           c.in_ok-text.ensures
           ∙ ap (λ (s : Script). run_text s c.args.print c.journal.result.now c.trace.result.now) (c.script.ensures ∙ ran.script_is)
-          ∙ ap (λ (journal : List Entry). run_text script c.args.print journal c.trace.result.now) (c.journal.ensures.journal ∙ journal_is)
+          ∙ ap (λ (journal : List Entry). run_text script c.args.print journal c.trace.result.now) (journal_read ∙ journal_is)
           ∙ ap (λ (trace : List Event). run_text script c.args.print run.journal trace) (c.trace.ensures ∙ trace_is);
     }

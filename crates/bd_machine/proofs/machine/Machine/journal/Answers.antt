@@ -1,9 +1,13 @@
-use Rattle.std.proofs.Common.{subst}
-use Rattle.bd_machine.specs.Machine.{IsSomeHistory, state_of}
-use Rattle.bd_machine.specs.Whole.{Whole}
+use Rattle.std.proofs.Common.{◌∙◌, sym}
+use Rattle.bd_machine.proofs.ShowingMachine.{in_its_states}
 use Rattle.bd_machine.proofs.machine.Machine.journal.Goals as goal
 
+pub returns-clause-journal : goal.returns-clause-journal
+returns-clause-journal g c =
+    in_its_states c.self.inside.script c.self.inside.parts c.args.self.now _ c.self.view_is c.self.invariant
+    (λ m at. c.entries.ensures ∙ sym at.shows.journal)
+
 pub returns-clause-history : goal.returns-clause-history
-returns-clause-history c =
-    subst (λ (w : Whole). IsSomeHistory (state_of w)) c.self.view_is
-    ∣ (c.self.invariant.reached.0, c.self.invariant.reached.1.history) ∣₁
+returns-clause-history g c =
+    in_its_states c.self.inside.script c.self.inside.parts c.args.self.now _ c.self.view_is c.self.invariant
+    (λ m at. ∣ (at.reached.0, at.reached.1.history) ∣₁)

@@ -4,4 +4,4 @@ use Rattle.bd_machine.proofs.machine.calls.new_processes.Given as goal
 
 -- so many new processes
 abbrev pub invariant-loop-process : goal.invariant-loop-process
-invariant-loop-process l = (length l.processes.items ≡ l._process) × All IsNew l.processes.items
+invariant-loop-process g l = (length l.processes.items ≡ l._process) × All IsNew l.processes.items

@@ -1,4 +1,5 @@
+-- The entry is that of the command in hand, at the state that is shown.
 use Rattle.bd_machine.proofs.parts.Parts.miss_in_hand.Given as goal
 
-abbrev pub ghost-miss_found : goal.ghost-miss_found
-ghost-miss_found g a = g.g
+abbrev pub ghost-miss_entry : goal.ghost-miss_entry
+ghost-miss_entry g a = g.g

@@ -1,28 +1,28 @@
 use Rattle.std.proofs.Common.{ℕ, List, ◌∙◌, ap, get_or, sym}
 use Rattle.bd_base.specs.declared.script.Process.{Process as ScriptProcess}
-use Rattle.bd_machine.specs.declared.process.Phase.TheVariants.{Moving}
+use Rattle.bd_turns.specs.State.{Moving}
 use Rattle.bd_machine.proofs.EngineMisses.{command_noted, has_begun}
 use Rattle.bd_machine.proofs.EngineMoves.{can_move, move_piece, moves_on, user_is}
 use Rattle.bd_machine.proofs.parts.Parts.move_in_hand.Goals as goal
 
 pub change-requires : goal.change-requires
-change-requires g c = can_move _ c.args.self.now c.args.q c.requires c.in_ok-entry.entry c.in_ok-entry.ensures
+change-requires g c = can_move _ c.args.self.now c.args.q c.requires.1.1.1.engine c.in_ok-entry.entry c.in_ok-entry.ensures
 
 pub note-requires-clause-begun : goal.note-requires-clause-begun
 note-requires-clause-begun g c =
-    let begun = has_begun _ c.args.self.now c.args.q Moving c.requires in
+    let begun = has_begun _ c.args.self.now c.args.q Moving c.requires.1.1.1.engine in
     record { it = begun.it; there = begun.there; begun = begun.begun }
 
 pub note-requires-clause-piece : goal.note-requires-clause-piece
-note-requires-clause-piece g c = move_piece _ c.args.self.now c.args.q c.requires c.in_ok-entry.entry c.in_ok-entry.ensures
+note-requires-clause-piece g c = move_piece _ c.args.self.now c.args.q c.requires.1.1.1.engine c.in_ok-entry.entry c.in_ok-entry.ensures
 
 pub answer-requires : goal.answer-requires
 answer-requires g c =
-    command_noted _ c.args.self.now c.args.q Moving c.requires c.note.new.self c.change.new.self c.add.new.self c.in_ok-entry.entry c.note.ensures
+    command_noted _ c.args.self.now c.args.q Moving c.requires.1.1.1.engine c.note.new.self c.change.new.self c.add.new.self c.in_ok-entry.entry c.note.ensures
 
 pub returns-clause-ok : goal.returns-clause-ok
 returns-clause-ok g c =
-    let w = c.requires in
+    let w = c.requires.1.1.1.engine in
     let is = c.in_ok-entry.ensures in
     let r = c.index-as_slice-get.result in
     let user =

@@ -18,11 +18,11 @@ returns-then-from-calls-clause-ok g c =
     let script = c.args.script.now in
     let m = g.m in
     let process = c.args.p in
-    let is : IsAt script x m = c.requires.0 in
+    let is : IsAt g.T.Tables script x m = c.requires.1.1.1.0 in
     let it : ScriptProcess = c.index-as_slice-get.result in
     let y = c.index.result.now in
-    let there = process_read x process c.get-2.result y c.get-2.ensures.value (process_there script x m process is.shows c.requires.1) c.index.ensures in
-    let of = process_of_script script process c.get.result c.as_slice.result.now it c.requires.1 c.as_slice.ensures c.get.ensures.value
+    let there = process_read x process c.get-2.result y c.get-2.ensures.value (process_there script x m process is.shows c.requires.1.1.1.1) c.index.ensures in
+    let of = process_of_script script process c.get.result c.as_slice.result.now it c.requires.1.1.1.1 c.as_slice.ensures c.get.ensures.value
     c.index-as_slice-get.is in
     let same : length (get_or c.as_slice.result.now c.get.result it).calls ≡ length it.calls =
     ap (λ (q : ScriptProcess). length q.calls) (sym c.index-as_slice-get.is) in
@@ -30,7 +30,7 @@ returns-then-from-calls-clause-ok g c =
     let all : y.ended ≡ length it.calls = omega (arith, same, calls, c.from.ensures, c.if-from-calls.true) in
     let count : length m.script.processes ≡ length script.processes = ap (λ (s : Script). length s.processes) is.shows.script_is in
     took_idle script x x m process is.shows
-    (outcome_idle m process (omega (arith, count, c.requires.1)) (none_runs script x m process y it is there of all)) refl refl
+    (outcome_idle m process (omega (arith, count, c.requires.1.1.1.1)) (none_runs script x m process y it is there of all)) refl refl
 
 pub wait_to_begin-requires : goal.wait_to_begin-requires
 wait_to_begin-requires g c =
@@ -38,18 +38,18 @@ wait_to_begin-requires g c =
     let script = c.args.script.now in
     let m = g.m in
     let process = c.args.p in
-    let is : IsAt script x m = c.requires.0 in
+    let is : IsAt g.T.Tables script x m = c.requires.1.1.1.0 in
     let it : ScriptProcess = c.index-as_slice-get.result in
     let y = c.index.result.now in
-    let there = process_read x process c.get-2.result y c.get-2.ensures.value (process_there script x m process is.shows c.requires.1) c.index.ensures in
-    let of = process_of_script script process c.get.result c.as_slice.result.now it c.requires.1 c.as_slice.ensures c.get.ensures.value
+    let there = process_read x process c.get-2.result y c.get-2.ensures.value (process_there script x m process is.shows c.requires.1.1.1.1) c.index.ensures in
+    let of = process_of_script script process c.get.result c.as_slice.result.now it c.requires.1.1.1.1 c.as_slice.ensures c.get.ensures.value
     c.index-as_slice-get.is in
     let same : length (get_or c.as_slice.result.now c.get.result it).calls ≡ length it.calls =
     ap (λ (q : ScriptProcess). length q.calls) (sym c.index-as_slice-get.is) in
     let calls = c.len-calls.ensures in
     let differ : y.ended ≢ length it.calls =
     λ all. c.if-from-calls.false (omega (arith, same, calls, c.from.ensures, all)) in
-    (is, (c.requires.1, one_runs script x m process y it is there of differ))
+    λ κs out. (out.0, (out.1.0, (out.1.1, (is, (c.requires.1.1.1.1, one_runs script x m process y it is there of differ)))))
 
 pub begin-requires : goal.begin-requires
 begin-requires g c =
@@ -57,28 +57,28 @@ begin-requires g c =
     let script = c.args.script.now in
     let m = g.m in
     let process = c.args.p in
-    let is : IsAt script x m = c.requires.0 in
+    let is : IsAt g.T.Tables script x m = c.requires.1.1.1.0 in
     let it : ScriptProcess = c.index-as_slice-get.result in
     let y = c.index.result.now in
-    let there = process_read x process c.get-2.result y c.get-2.ensures.value (process_there script x m process is.shows c.requires.1) c.index.ensures in
-    let of = process_of_script script process c.get.result c.as_slice.result.now it c.requires.1 c.as_slice.ensures c.get.ensures.value
+    let there = process_read x process c.get-2.result y c.get-2.ensures.value (process_there script x m process is.shows c.requires.1.1.1.1) c.index.ensures in
+    let of = process_of_script script process c.get.result c.as_slice.result.now it c.requires.1.1.1.1 c.as_slice.ensures c.get.ensures.value
     c.index-as_slice-get.is in
     let same : length (get_or c.as_slice.result.now c.get.result it).calls ≡ length it.calls =
     ap (λ (q : ScriptProcess). length q.calls) (sym c.index-as_slice-get.is) in
     let calls = c.len-calls.ensures in
     let differ : y.ended ≢ length it.calls =
     λ all. c.if-from-calls.false (omega (arith, same, calls, c.from.ensures, all)) in
-    (is, (c.requires.1, one_runs script x m process y it is there of differ))
+    λ κs out. (out.0, (out.1.0, (out.1.1, (is, (c.requires.1.1.1.1, one_runs script x m process y it is there of differ)))))
 
 pub returns-in-Some-clause-ok : goal.returns-in-Some-clause-ok
 returns-in-Some-clause-ok g c =
     let x = c.args.self.now in
-    took_wait c.args.script.now x x g.m c.args.p c.in-Some.wait c.requires.0.shows (rw c.in-Some.is at c.wait_to_begin.ensures) refl refl
+    took_wait c.args.script.now x x g.m c.args.p c.in-Some.wait c.requires.1.1.1.0.shows (rw c.in-Some.is at c.wait_to_begin.ensures) refl refl
 
 pub unreachable-requires : goal.unreachable-requires
 unreachable-requires g c =
     let m = g.m in
-    let is : IsAt c.args.script.now c.args.self.now m = c.requires.0 in
+    let is : IsAt g.T.Tables c.args.script.now c.args.self.now m = c.requires.1.1.1.0 in
     let next : IsNextAct m c.args.p (acts.Revoke c.in-Revoke.field-0) = c.in-Revoke.ensures in
     let built = built_at m.script next.place.at next.place.call (subst AreBuilt (sym is.shows.script_is) is.built)
     (runs_at m c.args.p next.place next.running_is).called in

@@ -21,19 +21,20 @@ use Rattle.bd_machine.proofs.parts.Parts.submit.Goals as goal
 
 pub call_at-call-requires : goal.call_at-call-requires
 call_at-call-requires g c =
-    called_next c.args.script.now c.args.self.now g.m c.args.p (acts.Submit c.args.piece) c.at.result c.requires.0 c.requires.1.0 c.requires.1.1
+    called_next c.args.script.now c.args.self.now g.m c.args.p (acts.Submit c.args.piece) c.at.result c.requires.1.1.1.0 c.requires.1.1.1.1.0
+    c.requires.1.1.1.1.1
     c.at.ensures
 
 pub index_mut-it-requires : goal.index_mut-it-requires
 index_mut-it-requires g c =
-    let below = begun_there c.args.self.now c.args.p c.requires.1.0 in
+    let below = begun_there c.args.self.now c.args.p c.requires.1.1.1.1.0 in
     let count = c.args.self.now.processes.ok.0 in
     omega (arith, below, count, c.get.ensures.value)
 
 pub unwrap-running-requires : goal.unwrap-running-requires
 unwrap-running-requires g c =
     c.as_mut.ensures.variant
-    ∙ call_begun c.args.self.now c.args.p c.get.result c.index_mut-it.result.now c.requires.1.0 c.get.ensures.value c.index_mut-it.ensures.value
+    ∙ call_begun c.args.self.now c.args.p c.get.result c.index_mut-it.result.now c.requires.1.1.1.1.0 c.get.ensures.value c.index_mut-it.ensures.value
 
 pub unwrap-requires : goal.unwrap-requires
 unwrap-requires g c =
@@ -46,8 +47,8 @@ unwrap-requires g c =
     let y = c.index_mut-it.result.now in
     let kept = c.unwrap-running.result.now in
     let begun : y.call ≡ Some kept = sym c.as_mut.ensures.value ∙ ap (λ (o : _). option_copied_mut o) c.unwrap-running.ensures in
-    let r : Ready script x m process y kept act =
-    ready_for script old m process c.get.result y kept act c.reserve.new.self c.requires.0 c.requires.1.0 c.requires.1.1 c.get.ensures.value
+    let r : Ready g.T.Tables script x m process y kept act =
+    ready_for script old m process c.get.result y kept act c.reserve.new.self c.requires.1.1.1.0 c.requires.1.1.1.1.0 c.requires.1.1.1.1.1 c.get.ensures.value
     c.index_mut-it.ensures.value begun c.reserve.ensures.same.entries in
     let p : Place = place script x m process y kept act r in
     let of_piece = submits_piece r.v m p c.args.piece r.reached r.here.runs r.acts.next in
@@ -55,7 +56,7 @@ unwrap-requires g c =
 
 pub command_of-command-requires-clause-call : goal.command_of-command-requires-clause-call
 command_of-command-requires-clause-call g c =
-    call_within c.args.script.now c.args.self.now g.m c.at.result c.call_at-call.result.now c.requires.0 c.call_at-call.ensures
+    call_within c.args.script.now c.args.self.now g.m c.at.result c.call_at-call.result.now c.requires.1.1.1.0 c.call_at-call.ensures
 
 pub command_of-command-requires-clause-fd : goal.command_of-command-requires-clause-fd
 command_of-command-requires-clause-fd g c =
@@ -68,8 +69,8 @@ command_of-command-requires-clause-fd g c =
     let y = c.index_mut-it.result.now in
     let kept = c.unwrap-running.result.now in
     let begun : y.call ≡ Some kept = sym c.as_mut.ensures.value ∙ ap (λ (o : _). option_copied_mut o) c.unwrap-running.ensures in
-    let r : Ready script x m process y kept act =
-    ready_for script old m process c.get.result y kept act c.reserve.new.self c.requires.0 c.requires.1.0 c.requires.1.1 c.get.ensures.value
+    let r : Ready g.T.Tables script x m process y kept act =
+    ready_for script old m process c.get.result y kept act c.reserve.new.self c.requires.1.1.1.0 c.requires.1.1.1.1.0 c.requires.1.1.1.1.1 c.get.ensures.value
     c.index_mut-it.ensures.value begun c.reserve.ensures.same.entries in
     let p : Place = place script x m process y kept act r in
     let of_piece = submits_piece r.v m p c.args.piece r.reached r.here.runs r.acts.next in
@@ -89,8 +90,8 @@ command_of-command-requires-clause-piece g c =
     let y = c.index_mut-it.result.now in
     let kept = c.unwrap-running.result.now in
     let begun : y.call ≡ Some kept = sym c.as_mut.ensures.value ∙ ap (λ (o : _). option_copied_mut o) c.unwrap-running.ensures in
-    let r : Ready script x m process y kept act =
-    ready_for script old m process c.get.result y kept act c.reserve.new.self c.requires.0 c.requires.1.0 c.requires.1.1 c.get.ensures.value
+    let r : Ready g.T.Tables script x m process y kept act =
+    ready_for script old m process c.get.result y kept act c.reserve.new.self c.requires.1.1.1.0 c.requires.1.1.1.1.0 c.requires.1.1.1.1.1 c.get.ensures.value
     c.index_mut-it.ensures.value begun c.reserve.ensures.same.entries in
     let p : Place = place script x m process y kept act r in
     let called = call_of_script script x m process y kept act r c.at.result (c.at.ensures y r.here.there) in
@@ -109,8 +110,8 @@ submit-requires-clause-room g c =
     let y = c.index_mut-it.result.now in
     let kept = c.unwrap-running.result.now in
     let begun : y.call ≡ Some kept = sym c.as_mut.ensures.value ∙ ap (λ (o : _). option_copied_mut o) c.unwrap-running.ensures in
-    let r : Ready script x m process y kept act =
-    ready_for script old m process c.get.result y kept act c.reserve.new.self c.requires.0 c.requires.1.0 c.requires.1.1 c.get.ensures.value
+    let r : Ready g.T.Tables script x m process y kept act =
+    ready_for script old m process c.get.result y kept act c.reserve.new.self c.requires.1.1.1.0 c.requires.1.1.1.1.0 c.requires.1.1.1.1.1 c.get.ensures.value
     c.index_mut-it.ensures.value begun c.reserve.ensures.same.entries in
     let p : Place = place script x m process y kept act r in
     let has = room script x m r.v p y kept r.here r.reached c.args.piece r.acts.next in
@@ -127,8 +128,8 @@ submit-requires-clause-piece g c =
     let y = c.index_mut-it.result.now in
     let kept = c.unwrap-running.result.now in
     let begun : y.call ≡ Some kept = sym c.as_mut.ensures.value ∙ ap (λ (o : _). option_copied_mut o) c.unwrap-running.ensures in
-    let r : Ready script x m process y kept act =
-    ready_for script old m process c.get.result y kept act c.reserve.new.self c.requires.0 c.requires.1.0 c.requires.1.1 c.get.ensures.value
+    let r : Ready g.T.Tables script x m process y kept act =
+    ready_for script old m process c.get.result y kept act c.reserve.new.self c.requires.1.1.1.0 c.requires.1.1.1.1.0 c.requires.1.1.1.1.1 c.get.ensures.value
     c.index_mut-it.ensures.value begun c.reserve.ensures.same.entries in
     let p : Place = place script x m process y kept act r in
     let has = room script x m r.v p y kept r.here r.reached c.args.piece r.acts.next in
@@ -145,8 +146,8 @@ submitted-requires g c =
     let y = c.index_mut-it.result.now in
     let kept = c.unwrap-running.result.now in
     let begun : y.call ≡ Some kept = sym c.as_mut.ensures.value ∙ ap (λ (o : _). option_copied_mut o) c.unwrap-running.ensures in
-    let r : Ready script x m process y kept act =
-    ready_for script old m process c.get.result y kept act c.reserve.new.self c.requires.0 c.requires.1.0 c.requires.1.1 c.get.ensures.value
+    let r : Ready g.T.Tables script x m process y kept act =
+    ready_for script old m process c.get.result y kept act c.reserve.new.self c.requires.1.1.1.0 c.requires.1.1.1.1.0 c.requires.1.1.1.1.1 c.get.ensures.value
     c.index_mut-it.ensures.value begun c.reserve.ensures.same.entries in
     let p : Place = place script x m process y kept act r in
     let has = room script x m r.v p y kept r.here r.reached c.args.piece r.acts.next in
@@ -163,15 +164,15 @@ end_turn-requires-clause-begun g c =
     let y = c.index_mut-it.result.now in
     let kept = c.unwrap-running.result.now in
     let begun : y.call ≡ Some kept = sym c.as_mut.ensures.value ∙ ap (λ (o : _). option_copied_mut o) c.unwrap-running.ensures in
-    let r : Ready script x m process y kept act =
-    ready_for script old m process c.get.result y kept act c.reserve.new.self c.requires.0 c.requires.1.0 c.requires.1.1 c.get.ensures.value
+    let r : Ready g.T.Tables script x m process y kept act =
+    ready_for script old m process c.get.result y kept act c.reserve.new.self c.requires.1.1.1.0 c.requires.1.1.1.1.0 c.requires.1.1.1.1.1 c.get.ensures.value
     c.index_mut-it.ensures.value begun c.reserve.ensures.same.entries in
     let p : Place = place script x m process y kept act r in
     let called = call_of_script script x m process y kept act r c.at.result (c.at.ensures y r.here.there) in
     let call : p.call ≡ c.call_at-call.result.now = same_Some p.call c.call_at-call.result.now (sym called.0 ∙ c.call_at-call.ensures) in
     let fd : fd_of p ≡ Some c.unwrap.result = sym (fd_kept script x m process y kept act r c.fd.result c.fd.ensures) ∙ c.unwrap.ensures in
     let command : IsCommandOf p c.command_of-command.result = c.command_of-command.ensures.command p call fd in
-    let new : Process = record y { call = Some c.submitted.new.self; queue = c.submit.new.self } in
+    let new : Process _ = record y { call = Some c.submitted.new.self; queue = c.submit.new.self } in
     subst (λ (n : ℕ). HasBegun (with_process x n new) process) (sym c.get.ensures.value)
     (begun_submitted script x m r.v p y kept r.here r.reached c.args.piece r.acts.next c.command_of-command.result c.submit.new.self c.submitted.new.self
     c.submit.ensures.queues c.submitted.ensures command c.command_of-command.ensures.piece)
@@ -187,10 +188,10 @@ end_turn-requires-clause-holder g c =
     let y = c.index_mut-it.result.now in
     let kept = c.unwrap-running.result.now in
     let begun : y.call ≡ Some kept = sym c.as_mut.ensures.value ∙ ap (λ (o : _). option_copied_mut o) c.unwrap-running.ensures in
-    let r : Ready script x m process y kept act =
-    ready_for script old m process c.get.result y kept act c.reserve.new.self c.requires.0 c.requires.1.0 c.requires.1.1 c.get.ensures.value
+    let r : Ready g.T.Tables script x m process y kept act =
+    ready_for script old m process c.get.result y kept act c.reserve.new.self c.requires.1.1.1.0 c.requires.1.1.1.1.0 c.requires.1.1.1.1.1 c.get.ensures.value
     c.index_mut-it.ensures.value begun c.reserve.ensures.same.entries in
-    let there = begun_there old process c.requires.1.0 in
+    let there = begun_there old process c.requires.1.1.1.1.0 in
     let shows = r.here.shows in
     omega (arith, there, shows.count, shows.holders)
 
@@ -205,15 +206,15 @@ end_turn-requires-clause-few g c =
     let y = c.index_mut-it.result.now in
     let kept = c.unwrap-running.result.now in
     let begun : y.call ≡ Some kept = sym c.as_mut.ensures.value ∙ ap (λ (o : _). option_copied_mut o) c.unwrap-running.ensures in
-    let r : Ready script x m process y kept act =
-    ready_for script old m process c.get.result y kept act c.reserve.new.self c.requires.0 c.requires.1.0 c.requires.1.1 c.get.ensures.value
+    let r : Ready g.T.Tables script x m process y kept act =
+    ready_for script old m process c.get.result y kept act c.reserve.new.self c.requires.1.1.1.0 c.requires.1.1.1.1.0 c.requires.1.1.1.1.1 c.get.ensures.value
     c.index_mut-it.ensures.value begun c.reserve.ensures.same.entries in
     let p : Place = place script x m process y kept act r in
     let called = call_of_script script x m process y kept act r c.at.result (c.at.ensures y r.here.there) in
     let call : p.call ≡ c.call_at-call.result.now = same_Some p.call c.call_at-call.result.now (sym called.0 ∙ c.call_at-call.ensures) in
     let fd : fd_of p ≡ Some c.unwrap.result = sym (fd_kept script x m process y kept act r c.fd.result c.fd.ensures) ∙ c.unwrap.ensures in
     let command : IsCommandOf p c.command_of-command.result = c.command_of-command.ensures.command p call fd in
-    let new : Process = record y { call = Some c.submitted.new.self; queue = c.submit.new.self } in
+    let new : Process _ = record y { call = Some c.submitted.new.self; queue = c.submit.new.self } in
     subst (λ (n : ℕ). AreFew (with_process x n new) process) (sym c.get.ensures.value)
     (few_submitted script x m r.v p y kept r.here r.reached c.args.piece r.acts.next c.command_of-command.result c.submit.new.self c.submitted.new.self
     c.submit.ensures.queues c.submitted.ensures command c.command_of-command.ensures.piece)
@@ -229,20 +230,20 @@ returns-clause-ok g c =
     let y = c.index_mut-it.result.now in
     let kept = c.unwrap-running.result.now in
     let begun : y.call ≡ Some kept = sym c.as_mut.ensures.value ∙ ap (λ (o : _). option_copied_mut o) c.unwrap-running.ensures in
-    let r : Ready script x m process y kept act =
-    ready_for script old m process c.get.result y kept act c.reserve.new.self c.requires.0 c.requires.1.0 c.requires.1.1 c.get.ensures.value
+    let r : Ready g.T.Tables script x m process y kept act =
+    ready_for script old m process c.get.result y kept act c.reserve.new.self c.requires.1.1.1.0 c.requires.1.1.1.1.0 c.requires.1.1.1.1.1 c.get.ensures.value
     c.index_mut-it.ensures.value begun c.reserve.ensures.same.entries in
     let p : Place = place script x m process y kept act r in
     let called = call_of_script script x m process y kept act r c.at.result (c.at.ensures y r.here.there) in
     let call : p.call ≡ c.call_at-call.result.now = same_Some p.call c.call_at-call.result.now (sym called.0 ∙ c.call_at-call.ensures) in
     let fd : fd_of p ≡ Some c.unwrap.result = sym (fd_kept script x m process y kept act r c.fd.result c.fd.ensures) ∙ c.unwrap.ensures in
     let command : IsCommandOf p c.command_of-command.result = c.command_of-command.ensures.command p call fd in
-    let new : Process = record y { call = Some c.submitted.new.self; queue = c.submit.new.self } in
+    let new : Process _ = record y { call = Some c.submitted.new.self; queue = c.submit.new.self } in
     let ends : EndsTurn (with_process x process new) c.end_turn.new.self process process rows.Submit =
     subst (λ (a : ℕ). EndsTurn (with_process x process new) c.end_turn.new.self process a rows.Submit) c.processor.ensures
     (subst (λ (n : ℕ). EndsTurn (with_process x n new) c.end_turn.new.self process c.processor.result rows.Submit) c.get.ensures.value
     c.end_turn.ensures.ends) in
-    subst (λ (turn : Turn). TookTurn script old c.end_turn.new.self m process turn) (sym c.end_turn.ensures.answer)
+    subst (λ (turn : Turn). TookTurn g.T.Tables script old c.end_turn.new.self m process turn) (sym c.end_turn.ensures.answer)
     (took_submit script x m r.v p y kept r.here r.reached c.args.piece r.acts.next c.command_of-command.result c.submit.new.self c.submitted.new.self
     c.submit.ensures.queues c.submitted.ensures command c.command_of-command.ensures.piece
     old c.end_turn.new.self c.reserve.ensures.same.events c.reserve.ensures.same.turns ends)

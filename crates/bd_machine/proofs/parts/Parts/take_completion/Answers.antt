@@ -25,8 +25,9 @@ polled-requires g c =
     let y = c.index_mut-it.result.now in
     let kept = c.unwrap-running.result.now in
     let begun : y.call ≡ Some kept = sym c.as_mut.ensures.value ∙ ap (λ (o : _). option_copied_mut o) c.unwrap-running.ensures in
-    let r : Ready script x m process y kept act =
-    ready_for script old m process c.get.result y kept act c.reserve.new.self c.requires.0 c.requires.1.0 c.requires.1.1.0 c.get.ensures.value
+    let r : Ready g.T.Tables script x m process y kept act =
+    ready_for script old m process c.get.result y kept act c.reserve.new.self c.requires.1.1.1.0 c.requires.1.1.1.1.0 c.requires.1.1.1.1.1.0
+    c.get.ensures.value
     c.index_mut-it.ensures.value begun c.reserve.ensures.same.entries in
     let p : Place = place script x m process y kept act r in
     let first : y.queue.completed ≡ c.unwrap-done.result ∷ c.poll.new.self.completed =
@@ -44,13 +45,14 @@ end_turn-requires-clause-begun g c =
     let y = c.index_mut-it.result.now in
     let kept = c.unwrap-running.result.now in
     let begun : y.call ≡ Some kept = sym c.as_mut.ensures.value ∙ ap (λ (o : _). option_copied_mut o) c.unwrap-running.ensures in
-    let r : Ready script x m process y kept act =
-    ready_for script old m process c.get.result y kept act c.reserve.new.self c.requires.0 c.requires.1.0 c.requires.1.1.0 c.get.ensures.value
+    let r : Ready g.T.Tables script x m process y kept act =
+    ready_for script old m process c.get.result y kept act c.reserve.new.self c.requires.1.1.1.0 c.requires.1.1.1.1.0 c.requires.1.1.1.1.1.0
+    c.get.ensures.value
     c.index_mut-it.ensures.value begun c.reserve.ensures.same.entries in
     let p : Place = place script x m process y kept act r in
     let first : y.queue.completed ≡ c.unwrap-done.result ∷ c.poll.new.self.completed =
     c.poll.ensures.completed ∙ ap (λ (o : Option Done). option_to_list o ++ c.poll.new.self.completed) c.unwrap-done.ensures in
-    let new : Process = record y { call = Some c.polled.new.self; queue = c.poll.new.self } in
+    let new : Process _ = record y { call = Some c.polled.new.self; queue = c.poll.new.self } in
     subst (λ (n : ℕ). HasBegun (with_process x n new) process) (sym c.get.ensures.value)
     (begun_polled script x m r.v p y kept r.here r.reached r.acts.next c.unwrap-done.result c.poll.new.self c.polled.new.self
     first c.poll.ensures.submitted c.poll.ensures.in_hand c.polled.ensures)
@@ -66,10 +68,11 @@ end_turn-requires-clause-holder g c =
     let y = c.index_mut-it.result.now in
     let kept = c.unwrap-running.result.now in
     let begun : y.call ≡ Some kept = sym c.as_mut.ensures.value ∙ ap (λ (o : _). option_copied_mut o) c.unwrap-running.ensures in
-    let r : Ready script x m process y kept act =
-    ready_for script old m process c.get.result y kept act c.reserve.new.self c.requires.0 c.requires.1.0 c.requires.1.1.0 c.get.ensures.value
+    let r : Ready g.T.Tables script x m process y kept act =
+    ready_for script old m process c.get.result y kept act c.reserve.new.self c.requires.1.1.1.0 c.requires.1.1.1.1.0 c.requires.1.1.1.1.1.0
+    c.get.ensures.value
     c.index_mut-it.ensures.value begun c.reserve.ensures.same.entries in
-    let there = begun_there old process c.requires.1.0 in
+    let there = begun_there old process c.requires.1.1.1.1.0 in
     let shows = r.here.shows in
     omega (arith, there, shows.count, shows.holders)
 
@@ -84,13 +87,14 @@ end_turn-requires-clause-few g c =
     let y = c.index_mut-it.result.now in
     let kept = c.unwrap-running.result.now in
     let begun : y.call ≡ Some kept = sym c.as_mut.ensures.value ∙ ap (λ (o : _). option_copied_mut o) c.unwrap-running.ensures in
-    let r : Ready script x m process y kept act =
-    ready_for script old m process c.get.result y kept act c.reserve.new.self c.requires.0 c.requires.1.0 c.requires.1.1.0 c.get.ensures.value
+    let r : Ready g.T.Tables script x m process y kept act =
+    ready_for script old m process c.get.result y kept act c.reserve.new.self c.requires.1.1.1.0 c.requires.1.1.1.1.0 c.requires.1.1.1.1.1.0
+    c.get.ensures.value
     c.index_mut-it.ensures.value begun c.reserve.ensures.same.entries in
     let p : Place = place script x m process y kept act r in
     let first : y.queue.completed ≡ c.unwrap-done.result ∷ c.poll.new.self.completed =
     c.poll.ensures.completed ∙ ap (λ (o : Option Done). option_to_list o ++ c.poll.new.self.completed) c.unwrap-done.ensures in
-    let new : Process = record y { call = Some c.polled.new.self; queue = c.poll.new.self } in
+    let new : Process _ = record y { call = Some c.polled.new.self; queue = c.poll.new.self } in
     subst (λ (n : ℕ). AreFew (with_process x n new) process) (sym c.get.ensures.value)
     (few_polled script x m r.v p y kept r.here r.reached r.acts.next c.unwrap-done.result c.poll.new.self c.polled.new.self
     first c.poll.ensures.submitted c.poll.ensures.in_hand c.polled.ensures)
@@ -106,29 +110,30 @@ returns-clause-ok g c =
     let y = c.index_mut-it.result.now in
     let kept = c.unwrap-running.result.now in
     let begun : y.call ≡ Some kept = sym c.as_mut.ensures.value ∙ ap (λ (o : _). option_copied_mut o) c.unwrap-running.ensures in
-    let r : Ready script x m process y kept act =
-    ready_for script old m process c.get.result y kept act c.reserve.new.self c.requires.0 c.requires.1.0 c.requires.1.1.0 c.get.ensures.value
+    let r : Ready g.T.Tables script x m process y kept act =
+    ready_for script old m process c.get.result y kept act c.reserve.new.self c.requires.1.1.1.0 c.requires.1.1.1.1.0 c.requires.1.1.1.1.1.0
+    c.get.ensures.value
     c.index_mut-it.ensures.value begun c.reserve.ensures.same.entries in
     let p : Place = place script x m process y kept act r in
     let first : y.queue.completed ≡ c.unwrap-done.result ∷ c.poll.new.self.completed =
     c.poll.ensures.completed ∙ ap (λ (o : Option Done). option_to_list o ++ c.poll.new.self.completed) c.unwrap-done.ensures in
-    let new : Process = record y { call = Some c.polled.new.self; queue = c.poll.new.self } in
+    let new : Process _ = record y { call = Some c.polled.new.self; queue = c.poll.new.self } in
     let ends : EndsTurn (with_process x process new) c.end_turn.new.self process process rows.Poll =
     subst (λ (a : ℕ). EndsTurn (with_process x process new) c.end_turn.new.self process a rows.Poll) c.processor.ensures
     (subst (λ (n : ℕ). EndsTurn (with_process x n new) c.end_turn.new.self process c.processor.result rows.Poll) c.get.ensures.value
     c.end_turn.ensures.ends) in
-    subst (λ (turn : Turn). TookTurn script old c.end_turn.new.self m process turn) (sym c.end_turn.ensures.answer)
+    subst (λ (turn : Turn). TookTurn g.T.Tables script old c.end_turn.new.self m process turn) (sym c.end_turn.ensures.answer)
     (took_poll script x m r.v p y kept r.here r.reached r.acts.next c.unwrap-done.result c.poll.new.self c.polled.new.self
     first c.poll.ensures.submitted c.poll.ensures.in_hand c.polled.ensures
     old c.end_turn.new.self c.reserve.ensures.same.events c.reserve.ensures.same.turns ends)
 
 pub index_mut-it-requires : goal.index_mut-it-requires
 index_mut-it-requires g c =
-    let below = begun_there c.args.self.now c.args.p c.requires.1.0 in
+    let below = begun_there c.args.self.now c.args.p c.requires.1.1.1.1.0 in
     let count = c.args.self.now.processes.ok.0 in
     omega (arith, below, count, c.get.ensures.value)
 
 pub unwrap-running-requires : goal.unwrap-running-requires
 unwrap-running-requires g c =
     c.as_mut.ensures.variant
-    ∙ call_begun c.args.self.now c.args.p c.get.result c.index_mut-it.result.now c.requires.1.0 c.get.ensures.value c.index_mut-it.ensures.value
+    ∙ call_begun c.args.self.now c.args.p c.get.result c.index_mut-it.result.now c.requires.1.1.1.1.0 c.get.ensures.value c.index_mut-it.ensures.value

@@ -1,5 +1,0 @@
-use Rattle.bd_machine.specs.Kept.{state_shown}
-use Rattle.bd_machine.proofs.machine.Machine.step.Given as goal
-
-abbrev pub ghost-step : goal.ghost-step
-ghost-step a = state_shown a.script.now a.self.now
