@@ -12,19 +12,20 @@ use Rattle.bd_entry.specs.declared.entry.Entry.{Entry}
 use Rattle.bd_entry.specs.declared.entry.Entry.TheVariants as entries
 use Rattle.bd_entry.specs.Calls.{Place, call_at, is_miss_of}
 use Rattle.bd_entry.specs.Effects.{after_change}
+use Rattle.bd_entry.specs.RulesOfRights.{HasRights}
 use Rattle.bd_entry.proofs.RangesOfPieces.{piece_of_call-is}
 use Rattle.bd_kernel.specs.Disks.{DiskState, IsDiskOf}
 use Rattle.bd_kernel.specs.Marks.{HasPieceOf}
 use Rattle.bd_machine.specs.declared.parts.Parts.{Parts}
 use Rattle.bd_machine.specs.declared.process.Hand.{Hand}
 use Rattle.bd_machine.specs.declared.process.Process.{Process}
-use Rattle.bd_machine.specs.Engines.{Becomes, HasCommand, IsInPhase, IsMissInHand, TakesStep, with_answer}
+use Rattle.bd_machine.specs.Engines.{Becomes, HasCommand, IsInPhase, IsMissInHand, MayNoteAt, TakesStep, with_answer}
 use Rattle.bd_machine.specs.Logs.{AppendsEntry, LogState}
 use Rattle.bd_machine.specs.Shows.{in_hand_of}
 use Rattle.bd_machine.specs.Turns.{HasBegun, NotesEntry, Sight, process_in}
 use Rattle.bd_machine.proofs.EngineFacts.{Working}
 use Rattle.bd_machine.proofs.EngineNotes.{Noted, noted_call, notes_on}
-use Rattle.bd_machine.proofs.EngineWalks.{facts, goes, hand_is, running_there, walk_for}
+use Rattle.bd_machine.proofs.EngineWalks.{facts, goes, hand_is, in_hand_there, running_there, walk_for}
 use Rattle.bd_queue_pair.specs.declared.command.DoneKind.TheVariants as kinds
 use Rattle.bd_tables.specs.State.{found_of, walk_at}
 use Rattle.bd_turns.specs.declared.turn.Row.TheVariants as rows
@@ -87,6 +88,19 @@ module _ {T M P : Type 0} {K : sides.Ghosts T P} (g : Sight) (x : Parts T M P) (
   found_there =
       let walk = (walk_for g x q Missing w).walk in
       (walk.0, ap found_of (ap (λ (n : ℕ). walk_at m.tables.walks n) (sym known.process_is) ∙ walk.1))
+
+  -- so it may be noted
+  pub may_note_found : (found : Found) → found_of (walk_at m.tables.walks q) ≡ Some found → MayNoteAt m q w.hand found
+  may_note_found found is p runs =
+      let walk_is = walk_for g x q Missing w in
+      let same : walk_is.walk.0 ≡ found =
+      same_Some walk_is.walk.0 found
+      (sym (ap found_of (ap (λ (n : ℕ). walk_at m.tables.walks n) (sym known.process_is) ∙ walk_is.walk.1)) ∙ is) in
+      subst (λ (f : Found). HasRights m.store p (entries.Missed p.at w.hand.command.piece f)) same
+      (subst (λ (k : Place). HasRights m.store k (entries.Missed k.at w.hand.command.piece walk_is.walk.0))
+      (same_Some known.place p (sym known.running_is ∙ runs))
+      (known.sound.tables_are.notable known.place (in_hand_of w.hand Missing) walk_is.request walk_is.walk.0 (running_there g x q Missing w)
+      (in_hand_there g x q Missing w) refl walk_is.walk.1))
 
   pub misses : (found : Found) (entry : Entry) (at : At) (piece : ℕ) → found_of (walk_at m.tables.walks q) ≡ Some found →
       at ≡ record { process = q; call = w.it.ended } → piece ≡ w.hand.command.piece → entry ≡ entries.Missed at piece found →

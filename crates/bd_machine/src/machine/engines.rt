@@ -67,6 +67,8 @@ impl<T: Tables, M: Medium> Machine<T, M> {
             × TookRow T.Tables self.old self.new g.state (engine_of self.old q) Misses) }
         ensures again { OnAgain result.1 (λ found. (found ≡ g.found) × (¬ MayNoteAt g.state q g.hand g.found)
             × IsSameState T.Tables self.old self.new g.state) }
+        ensures never { IsInPhaseAt T.Tables self.old g.state q Missing → IsWalkOf T.Tables g.state q pass
+            → OnAgain result.1 (λ found. ⊥) }
         ensures err { OnErr result.1 (IsSameState T.Tables self.old self.new g.state) }
     {
         let found = self.parts.tables.found(&pass).unwrap();

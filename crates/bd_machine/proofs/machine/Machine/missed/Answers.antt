@@ -9,6 +9,7 @@ use Rattle.bd_machine.specs.Turns.{IsAt}
 use Rattle.bd_tables.specs.State.{found_of}
 use Rattle.bd_machine.specs.Asked.{engine_of}
 use Rattle.bd_machine.specs.Kept.{IsKept}
+use Rattle.bd_machine.proofs.EngineMisses.{may_note_found}
 use Rattle.bd_machine.proofs.MachineAsks.{at_inside, at_own, has_inside, in_phase_own, of_fell, on_again, on_err, on_noted, one_hand, same_state, stays_own, took_row_of}
 use Rattle.bd_turns.specs.declared.turn.Row.TheVariants.{Missed}
 use Rattle.bd_turns.specs.Turns.{after_turn}
@@ -35,7 +36,8 @@ missed-fell-requires g c κs outlives =
             record { at = at_own script parts m at; hand = g.g.hand; has = has; unanswered = w.unanswered },
             λ hand has_it notes.
                 let same : hand ≡ g.g.hand = one_hand parts c.args.q hand g.g.hand has_it has in
-                let walks = w.walks (subst (λ (f : Found). MayNoteAt m c.args.q g.g.hand f) found (subst (λ (h : Hand). MayNoteAt m c.args.q h c.unwrap-found.result) same notes)) in (
+                let walks = w.walks (subst (λ (f : Found). MayNoteAt m c.args.q g.g.hand f) found (subst (λ
+                (h : Hand). MayNoteAt m c.args.q h c.unwrap-found.result) same notes)) in (
                   in_phase_own x script parts m c.self.view_is w.shown c.args.q walks.0,
                   ap found_of walks.1 ∙ w.found_is ∙ ap Some (sym found),
                 ),
@@ -119,3 +121,21 @@ returns-clause-err g c =
     (λ stays. same_state x script parts m c.self.view_is w.shown c.missed-fell.new.self
     (stays_own script parts m (at_inside x script parts m c.self.view_is w.shown) c.missed-fell.new.self stays))
     c.missed-fell.ensures.err
+
+pub returns-clause-never : goal.returns-clause-never
+returns-clause-never g c = λ phase walk.
+    let r = c.requires.1.1.1 in
+    let w = r.0 in
+    let x = c.args.self.now in
+    let script = c.self.inside.script in
+    let parts = c.self.inside.parts in
+    let m = g.g.state in
+    let has = has_inside x script parts m c.self.view_is w.shown c.args.q g.g.hand w.has in
+    let found : c.unwrap-found.result ≡ g.g.found =
+    same_Some c.unwrap-found.result g.g.found (sym c.unwrap-found.ensures ∙ c.found.ensures ∙ w.found_is) in
+    let inside = in_phase_own x script parts m c.self.view_is w.shown c.args.q phase in
+    let same = one_hand parts c.args.q inside.hand g.g.hand (record { it = inside.it; there = inside.there; in_hand = inside.in_hand }) has in
+    let notes : MayNoteAt m c.args.q g.g.hand c.unwrap-found.result =
+    subst (λ (h : Hand). MayNoteAt m c.args.q h c.unwrap-found.result) same
+    (may_note_found _ parts c.args.q inside c.unwrap-found.result (ap found_of walk ∙ w.found_is ∙ ap Some (sym found))) in
+    on_again c.missed-fell.result (λ told again. again.1 g.g.hand has notes) c.missed-fell.ensures.again
