@@ -1,4 +1,6 @@
 //! Whole reads and writes, with each call failing in turn, and in pieces of one byte.
+ghost use Rattle.std.specs.Prelude.{◌<◌};
+
 use crate::{
     MemSink, MemSource, NumberList, ReadError, ReadSource, SureSink, SureSource, WriteError,
     WriteSink, read_all, write_all,
@@ -7,6 +9,7 @@ use bd_base::{Bytes, List};
 use std::alloc::{AllocError, Global};
 use std::io;
 use std::io::{ErrorKind, Read, Write};
+use std::process::Abort;
 use std::test::Fail;
 
 fn bytes(alloc: Global, items: &[u8]) -> Result<Bytes, AllocError> {
@@ -17,22 +20,38 @@ fn only(alloc: Global, number: u64) -> Result<NumberList, AllocError> {
     Ok(List::from_vec([number].to_vec(alloc)?))
 }
 
+/// Expects that three bytes are read in pieces of at most so many bytes.
+fn is_read_in_pieces(rt: &(impl Abort + AllocGlobal), most: usize) -> Result<(), Fail>
+    requires { 0 < most }
+{
+    let alloc = rt.alloc();
+    let mut source = MemSource::new(bytes(alloc, b"abc")?, most, List::new(alloc));
+    let read = read_all(alloc, &mut source, 3)?;
+    assert_eq!(rt; read.as_slice(), b"abc".as_slice(), "in pieces of {most}");
+    Ok(())
+}
+
+/// Expects that three bytes, a byte a call, are read up to the call that fails, and after it to their end.
+fn is_read_but_for(rt: &(impl Abort + AllocGlobal), call: u64) -> Result<(), Fail> {
+    let alloc = rt.alloc();
+    let mut source = MemSource::new(bytes(alloc, b"abc")?, 1, only(alloc, call)?);
+    let answer = read_all(alloc, &mut source, 3).err();
+    assert_eq!(rt; answer, Some(ReadError::Fault), "at call {call}");
+    let rest = read_all(alloc, &mut source, 3)?;
+    assert_eq!(rt; rest.len() as u64, 3 - call.min(3), "after call {call}");
+    Ok(())
+}
+
 #[test]
 fn reads_to_the_end_unless_a_read_fails(rt: HostRuntime) -> Result<(), Fail> {
-    let alloc = rt.alloc();
     for most in [1, 2, 3, 100] {
-        let mut source = MemSource::new(bytes(alloc, b"abc")?, most, List::new(alloc));
-        let read = read_all(alloc, &mut source, 3)?;
-        assert_eq!(rt; read.as_slice(), b"abc".as_slice(), "in pieces of {most}");
+        is_read_in_pieces(&rt, most)?;
     }
     // Three reads of a byte, and one that meets the end.
     for call in 0..4 {
-        let mut source = MemSource::new(bytes(alloc, b"abc")?, 1, only(alloc, call)?);
-        let answer = read_all(alloc, &mut source, 3).err();
-        assert_eq!(rt; answer, Some(ReadError::Fault), "at call {call}");
-        let rest = read_all(alloc, &mut source, 3)?;
-        assert_eq!(rt; rest.len() as u64, 3 - call.min(3), "after call {call}");
+        is_read_but_for(&rt, call)?;
     }
+    let alloc = rt.alloc();
     let mut source = MemSource::new(bytes(alloc, b"abc")?, 1, only(alloc, 4)?);
     assert_eq!(rt; read_all(alloc, &mut source, 3)?.len(), 3);
     Ok(())
@@ -73,22 +92,36 @@ fn reads_more_than_one_buffer(rt: HostRuntime) -> Result<(), Fail> {
     Ok(())
 }
 
+/// Expects that three texts are written whole in pieces of at most so many bytes.
+fn is_written_in_pieces(rt: &(impl Abort + AllocGlobal), most: usize) -> Result<(), Fail>
+    requires { 0 < most }
+{
+    let mut sink = SureSink::new(rt.alloc(), most);
+    for text in ["abc", "", "d"] {
+        write_all(&mut sink, text.as_bytes())?;
+    }
+    assert_eq!(rt; sink.held(), b"abcd".as_slice(), "in pieces of {most}");
+    Ok(())
+}
+
+/// Expects that three bytes, a byte a call, are written up to the call that fails.
+fn is_written_up_to(rt: &(impl Abort + AllocGlobal), call: u64, held: &str) -> Result<(), Fail> {
+    let mut sink = MemSink::new(rt.alloc(), 1, only(rt.alloc(), call)?);
+    let answer = write_all(&mut sink, b"abc");
+    assert_eq!(rt; answer, Err(WriteError::Fault), "at call {call}");
+    assert_eq!(rt; sink.held(), held.as_bytes(), "at call {call}");
+    Ok(())
+}
+
 #[test]
 fn writes_all_unless_a_write_fails(rt: HostRuntime) -> Result<(), Fail> {
-    let alloc = rt.alloc();
     for most in [1, 2, 3, 100] {
-        let mut sink = SureSink::new(alloc, most);
-        write_all(&mut sink, b"abc")?;
-        write_all(&mut sink, b"")?;
-        write_all(&mut sink, b"d")?;
-        assert_eq!(rt; sink.held(), b"abcd".as_slice(), "in pieces of {most}");
+        is_written_in_pieces(&rt, most)?;
     }
     for (call, held) in [(0, ""), (1, "a"), (2, "ab")] {
-        let mut sink = MemSink::new(alloc, 1, only(alloc, call)?);
-        let answer = write_all(&mut sink, b"abc");
-        assert_eq!(rt; answer, Err(WriteError::Fault), "at call {call}");
-        assert_eq!(rt; sink.held(), held.as_bytes(), "at call {call}");
+        is_written_up_to(&rt, call, held)?;
     }
+    let alloc = rt.alloc();
     let mut sink = MemSink::new(alloc, 1, only(alloc, 3)?);
     write_all(&mut sink, b"abc")?;
     assert_eq!(rt; sink.held(), b"abc".as_slice());

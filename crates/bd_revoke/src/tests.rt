@@ -176,17 +176,17 @@ fn detach_both<T: KernelSide>(
 #[test]
 fn two_rights_are_revoked(rt: HostRuntime) -> Result<(), Fail> {
     let (first, second) = (key(3)?, key(15)?);
-    let mut tables = two_rights(rt.alloc(), &first, &second)?;
-    let mut inval = Inval::new(rt.alloc())?;
     let by = At {
-        process: Pid::new(3).ok_or("a process")?,
+        process: first.process,
         call: 1,
     };
+    let mut tables = two_rights(rt.alloc(), &first, &second)?;
+    let mut inval = Inval::new(rt.alloc())?;
     let mut revoke = of_two(&first, &second, by);
     assert!(rt; !revoke.finished());
     let turn = post_both(&mut revoke, &mut tables, &mut inval, &first, &second);
     assert_eq!(rt; turn, RevokeTurn::Detaching(2));
-    assert_eq!(rt; inval.front(), Some(Post { key: key(3)?, by }));
+    assert_eq!(rt; inval.front(), Some(Post { key: first, by }));
     let finished = detach_both(&mut revoke, &mut tables, &first, &second);
     assert_eq!(rt; finished, Some((false, true)));
     assert_eq!(rt; tables.in_use(), 0);
@@ -225,16 +225,16 @@ fn fill_up(rt: &impl Abort, inval: &mut Inval, post: &Post) {
 #[test]
 fn a_post_waits_for_room(rt: HostRuntime) -> Result<(), Fail> {
     let (first, second) = (key(0)?, key(1)?);
-    let mut tables = two_rights(rt.alloc(), &first, &second)?;
-    let mut inval = Inval::new(rt.alloc())?;
     let by = At {
-        process: Pid::new(0).ok_or("a process")?,
+        process: first.process,
         call: 7,
     };
-    fill_up(&rt, &mut inval, &Post { key: key(0)?, by });
+    let mut tables = two_rights(rt.alloc(), &first, &second)?;
+    let mut inval = Inval::new(rt.alloc())?;
+    fill_up(&rt, &mut inval, &Post { key: first, by });
     let mut revoke = of_one(&second, by);
     let turns = wait_for_room(&mut revoke, &mut tables, &mut inval, &second);
-    assert_eq!(rt; turns, Some((32, RevokeTurn::Posted(key(1)?))));
+    assert_eq!(rt; turns, Some((32, RevokeTurn::Posted(second))));
     assert!(rt; !revoke.finished());
     Ok(())
 }

@@ -134,6 +134,21 @@ const SURE: Plan = Plan {
     disk: None,
 };
 
+/// What a command reads from.
+#[derive(Drop)]
+struct Sources {
+    image: MemSource,
+    script: MemSource,
+    journal: MemSource,
+}
+
+/// What a command writes to.
+#[derive(Drop)]
+struct Sinks {
+    out: MemSink,
+    disk: MemSink,
+}
+
 /// What a command leaves.
 #[derive(Drop)]
 struct Left {
@@ -163,6 +178,60 @@ fn run<I: Source, S: Source, J: Source, O: Sink, D: Sink>(
     top(alloc, words, image, script, journal, out, disk)
 }
 
+/// A source of a text.
+fn text_source(
+    alloc: Global,
+    text: &[u8],
+    most: usize,
+    call: Option<u64>,
+) -> Result<MemSource, Fail> {
+    source(alloc, text.to_vec(alloc)?, most, call)
+}
+
+/// The sources of these inputs.
+fn sources_of(alloc: Global, inputs: Inputs<'_>, most: Most, plan: Plan) -> Result<Sources, Fail> {
+    let Inputs {
+        image,
+        script,
+        journal,
+    } = inputs;
+    let image = source(alloc, image, most.image, plan.image)?;
+    let script = text_source(alloc, script, most.text, plan.script)?;
+    let journal = text_source(alloc, journal, most.text, plan.journal)?;
+    Ok(Sources {
+        image,
+        script,
+        journal,
+    })
+}
+
+/// The sinks of a command.
+fn sinks_of(alloc: Global, most: Most, plan: Plan) -> Result<Sinks, Fail> {
+    let out = sink(alloc, most.out, plan.out)?;
+    let disk = sink(alloc, most.image, plan.disk)?;
+    Ok(Sinks { out, disk })
+}
+
+/// Runs the command of these words from these sources to these sinks.
+fn run_between(alloc: Global, words: &[String], sources: Sources, sinks: Sinks) -> Left {
+    let Sources {
+        mut image,
+        mut script,
+        mut journal,
+    } = sources;
+    let Sinks { mut out, mut disk } = sinks;
+    let outcome = run(
+        alloc,
+        words,
+        &mut image,
+        &mut script,
+        &mut journal,
+        &mut out,
+        &mut disk,
+    );
+    Left { outcome, out, disk }
+}
+
 /// Runs a command on all its inputs.
 fn command_on(alloc: Global, texts: &[&str], inputs: Inputs<'_>, plan: Plan) -> Result<Left, Fail> {
     command_in_pieces(alloc, texts, inputs, MOST, plan)
@@ -177,26 +246,9 @@ fn command_in_pieces(
     plan: Plan,
 ) -> Result<Left, Fail> {
     let words = words(alloc, texts)?;
-    let mut image = source(alloc, inputs.image, most.image, plan.image)?;
-    let mut script = source(alloc, inputs.script.to_vec(alloc)?, most.text, plan.script)?;
-    let mut journal = source(
-        alloc,
-        inputs.journal.to_vec(alloc)?,
-        most.text,
-        plan.journal,
-    )?;
-    let mut out = sink(alloc, most.out, plan.out)?;
-    let mut disk = sink(alloc, most.image, plan.disk)?;
-    let outcome = run(
-        alloc,
-        words.as_slice(),
-        &mut image,
-        &mut script,
-        &mut journal,
-        &mut out,
-        &mut disk,
-    );
-    Ok(Left { outcome, out, disk })
+    let sources = sources_of(alloc, inputs, most, plan)?;
+    let sinks = sinks_of(alloc, most, plan)?;
+    Ok(run_between(alloc, words.as_slice(), sources, sinks))
 }
 
 /// Runs a command that reads no journal.

@@ -3,7 +3,7 @@ use super::{
     Left, Plan, REPORT, SCRIPT, SURE, check_image, fails_of, first_image, has_run, is_refused,
     replay_image, run, words,
 };
-use crate::{Status, To, Which, code};
+use crate::{Outcome, Status, To, Which, code};
 use bd_base::List;
 use bd_outside::{MemSink, SureSink, SureSource};
 use std::alloc::Global;
@@ -114,26 +114,46 @@ fn a_check_reads_no_script_and_writes_no_image(rt: HostRuntime) -> Result<(), Fa
     Ok(())
 }
 
-#[test]
-fn a_fault_leaves_a_prefix(rt: HostRuntime) -> Result<(), Fail> {
-    let alloc = rt.alloc();
-    let words = words(alloc, ["replay", "image", "script", "out"].as_slice())?;
-    let mut image = SureSource::new(List::from_vec(first_image(alloc)?), 100_000);
-    let mut script = SureSource::new(List::from_slice(alloc, SCRIPT)?, 100);
+/// What a command leaves whose image cannot fail.
+#[derive(Drop)]
+struct SureLeft {
+    outcome: Outcome,
+    out: MemSink,
+    disk: SureSink,
+}
+
+/// Runs a command whose sources and whose image written cannot fail.
+fn run_surely(
+    alloc: Global,
+    words: &[String],
+    mut image: SureSource,
+    mut script: SureSource,
+    mut out: MemSink,
+) -> SureLeft {
     let mut journal = SureSource::new(List::new(alloc), 1);
-    let mut out = MemSink::new(alloc, 16, fails_of(alloc, Some(1))?);
     let mut disk = SureSink::new(alloc, 100_000);
     let outcome = run(
         alloc,
-        words.as_slice(),
+        words,
         &mut image,
         &mut script,
         &mut journal,
         &mut out,
         &mut disk,
     );
-    assert_eq!(&rt; code(&outcome.status), 4);
-    assert!(&rt; out.held() == b"bypassd-report 1".as_slice());
-    assert!(&rt; disk.held().is_empty());
+    SureLeft { outcome, out, disk }
+}
+
+#[test]
+fn a_fault_leaves_a_prefix(rt: HostRuntime) -> Result<(), Fail> {
+    let alloc = rt.alloc();
+    let words = words(alloc, ["replay", "image", "script", "out"].as_slice())?;
+    let image = SureSource::new(List::from_vec(first_image(alloc)?), 100_000);
+    let script = SureSource::new(List::from_slice(alloc, SCRIPT)?, 100);
+    let out = MemSink::new(alloc, 16, fails_of(alloc, Some(1))?);
+    let left = run_surely(alloc, words.as_slice(), image, script, out);
+    assert_eq!(&rt; code(&left.outcome.status), 4);
+    assert!(&rt; left.out.held() == b"bypassd-report 1".as_slice());
+    assert!(&rt; left.disk.held().is_empty());
     Ok(())
 }

@@ -36,25 +36,51 @@ fn with_paths<'a>(
     Ok(command)
 }
 
-/// The command line for `clap`: a subcommand for each command.
-fn command_line<'a>(alloc: Global) -> Result<clap::Command<'a>, Fail> {
+/// The subcommand `replay` for `clap`.
+fn replay_command<'a>(alloc: Global) -> Result<clap::Command<'a>, Fail> {
     let flag = Arg::new(alloc, "journal")
         .long("journal")
         .action(ArgAction::SetTrue);
     let replay = clap::Command::new(alloc, "replay").arg(flag)?;
-    let verify = clap::Command::new(alloc, "verify");
-    let check = clap::Command::new(alloc, "check");
+    with_paths(replay, alloc, &["image", "script", "out"])
+}
+
+/// The subcommand `make` for `clap`.
+fn make_command<'a>(alloc: Global) -> Result<clap::Command<'a>, Fail> {
     let number = Arg::new(alloc, "n")
         .required(true)
         .value_parser(value_parser!(u64));
     let make = clap::Command::new(alloc, "make").arg(number)?;
-    let line = clap::Command::new(alloc, "bypassd")
-        .subcommand_required(true)
-        .subcommand(with_paths(replay, alloc, &["image", "script", "out"])?)?
-        .subcommand(with_paths(verify, alloc, &["image", "script", "journal"])?)?
-        .subcommand(with_paths(check, alloc, &["image"])?)?
-        .subcommand(with_paths(make, alloc, &["image", "script"])?)?;
-    Ok(line)
+    with_paths(make, alloc, &["image", "script"])
+}
+
+/// A command line for `clap` with one subcommand more.
+fn with_subcommand<'a>(
+    line: clap::Command<'a>,
+    command: clap::Command<'a>,
+) -> Result<clap::Command<'a>, Fail> {
+    Ok(line.subcommand(command)?)
+}
+
+/// A command line for `clap` with one subcommand more, which has these paths as its arguments.
+fn with_command_of_paths<'a>(
+    line: clap::Command<'a>,
+    alloc: Global,
+    name: &'static str,
+    paths: &[&'static str],
+) -> Result<clap::Command<'a>, Fail> {
+    let command = with_paths(clap::Command::new(alloc, name), alloc, paths)?;
+    with_subcommand(line, command)
+}
+
+/// The command line for `clap`: a subcommand for each command.
+fn command_line<'a>(alloc: Global) -> Result<clap::Command<'a>, Fail> {
+    let line = clap::Command::new(alloc, "bypassd").subcommand_required(true);
+    let line = with_subcommand(line, replay_command(alloc)?)?;
+    let line = with_subcommand(line, make_command(alloc)?)?;
+    let verify = ["image", "script", "journal"];
+    let line = with_command_of_paths(line, alloc, "verify", verify.as_slice())?;
+    with_command_of_paths(line, alloc, "check", &["image"])
 }
 
 /// Expects that `clap` has this word as this argument.

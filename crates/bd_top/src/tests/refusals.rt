@@ -101,37 +101,36 @@ fn refuses_a_script_past_the_limit(rt: HostRuntime) -> Result<(), Fail> {
     Ok(())
 }
 
+/// Expects that a replay of an empty script over this image with these calls failing is refused so.
+fn refuses_without_script(
+    rt: &(impl Abort + AllocGlobal),
+    image: Vec<u8>,
+    plan: Plan,
+    want: Status,
+) -> Result<(), Fail> {
+    let left = replay_image(rt.alloc(), image, b"", plan)?;
+    is_refused(rt, &left, want);
+    Ok(())
+}
+
 #[test]
 fn tells_the_image_before_the_script(rt: HostRuntime) -> Result<(), Fail> {
     let mut bad = first_image(rt.alloc())?;
     set(&mut bad, 4096, 0x1F);
+    let (rule, place) = (19, 4096);
     let script = Some(0);
-    let left = replay_image(rt.alloc(), bad, b"", Plan { script, ..SURE })?;
-    let want = Status::BadImage {
-        rule: 19,
-        place: 4096,
-    };
-    is_refused(&rt, &left, want);
+    let plan = Plan { script, ..SURE };
+    refuses_without_script(&rt, bad, plan, Status::BadImage { rule, place })?;
+    let good = first_image(rt.alloc())?;
     let image = Some(2);
-    let left = replay_image(
-        rt.alloc(),
-        first_image(rt.alloc())?,
-        b"",
-        Plan { image, ..SURE },
-    )?;
-    is_refused(&rt, &left, Status::ReadFault(Which::Image));
-    Ok(())
+    let plan = Plan { image, ..SURE };
+    refuses_without_script(&rt, good, plan, Status::ReadFault(Which::Image))
 }
 
 #[test]
 fn tells_the_script_before_a_write(rt: HostRuntime) -> Result<(), Fail> {
     let (out, disk) = (Some(0), Some(0));
-    let left = replay_image(
-        rt.alloc(),
-        first_image(rt.alloc())?,
-        b"",
-        Plan { out, disk, ..SURE },
-    )?;
-    is_refused(&rt, &left, Status::BadScript { line: 1, rule: 2 });
-    Ok(())
+    let image = first_image(rt.alloc())?;
+    let plan = Plan { out, disk, ..SURE };
+    refuses_without_script(&rt, image, plan, Status::BadScript { line: 1, rule: 2 })
 }

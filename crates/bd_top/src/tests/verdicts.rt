@@ -120,8 +120,8 @@ fn tells_the_first_bad_line(rt: HostRuntime) -> Result<(), Fail> {
     Ok(())
 }
 
-#[test]
-fn tells_the_inputs_in_their_order(rt: HostRuntime) -> Result<(), Fail> {
+/// Expects that an empty image is refused, whatever the others are.
+fn refuses_the_image_first(rt: &(impl Abort + AllocGlobal)) -> Result<(), Fail> {
     let alloc = rt.alloc();
     let words = ["verify", "image", "script", "journal"];
     let inputs = Inputs {
@@ -130,45 +130,64 @@ fn tells_the_inputs_in_their_order(rt: HostRuntime) -> Result<(), Fail> {
         journal: b"",
     };
     let left = command_on(alloc, words.as_slice(), inputs, SURE)?;
-    is_refused(&rt, &left, Status::BadImage { rule: 1, place: 0 });
-    let left = verified(alloc, b"bypassd-script 1\nread 0 0 0\n", b"", SURE)?;
+    is_refused(rt, &left, Status::BadImage { rule: 1, place: 0 });
+    Ok(())
+}
+
+#[test]
+fn tells_the_inputs_in_their_order(rt: HostRuntime) -> Result<(), Fail> {
+    refuses_the_image_first(&rt)?;
+    let left = verified(rt.alloc(), b"bypassd-script 1\nread 0 0 0\n", b"", SURE)?;
     is_refused(&rt, &left, Status::BadScript { line: 2, rule: 5 });
+    Ok(())
+}
+
+/// Expects that a verification of the first read with these calls failing ends so.
+fn fails_so(rt: &(impl Abort + AllocGlobal), plan: Plan, want: Status) -> Result<(), Fail> {
+    let left = verified(rt.alloc(), SCRIPT, JOURNAL, plan)?;
+    is_refused(rt, &left, want);
     Ok(())
 }
 
 #[test]
 fn each_call_of_a_verification_may_fail(rt: HostRuntime) -> Result<(), Fail> {
-    let alloc = rt.alloc();
     for call in 0..3 {
         let image = Some(call);
-        let left = verified(alloc, SCRIPT, JOURNAL, Plan { image, ..SURE })?;
-        is_refused(&rt, &left, Status::ReadFault(Which::Image));
+        fails_so(&rt, Plan { image, ..SURE }, Status::ReadFault(Which::Image))?;
     }
     for call in 0..4 {
         let script = Some(call);
-        let left = verified(alloc, SCRIPT, JOURNAL, Plan { script, ..SURE })?;
-        is_refused(&rt, &left, Status::ReadFault(Which::Script));
+        fails_so(
+            &rt,
+            Plan { script, ..SURE },
+            Status::ReadFault(Which::Script),
+        )?;
     }
     // 131 bytes in pieces of 20, and the end.
     for call in 0..8 {
         let journal = Some(call);
-        let left = verified(alloc, SCRIPT, JOURNAL, Plan { journal, ..SURE })?;
-        is_refused(&rt, &left, Status::ReadFault(Which::Journal));
+        fails_so(
+            &rt,
+            Plan { journal, ..SURE },
+            Status::ReadFault(Which::Journal),
+        )?;
     }
     let out = Some(0);
-    let left = verified(alloc, SCRIPT, JOURNAL, Plan { out, ..SURE })?;
-    is_refused(&rt, &left, Status::WriteFault(To::Out));
-    // No other call is made.
-    let (image, script, journal) = (Some(3), Some(4), Some(8));
-    let (out, disk) = (Some(1), Some(0));
-    let plan = Plan {
-        image,
-        script,
-        journal,
-        out,
-        disk,
-    };
-    let left = verified(alloc, SCRIPT, JOURNAL, plan)?;
+    fails_so(&rt, Plan { out, ..SURE }, Status::WriteFault(To::Out))
+}
+
+/// The first calls of a verification that there are not.
+const PAST_THE_LAST: Plan = Plan {
+    image: Some(3),
+    script: Some(4),
+    journal: Some(8),
+    out: Some(1),
+    disk: Some(0),
+};
+
+#[test]
+fn no_other_call_of_a_verification_is_made(rt: HostRuntime) -> Result<(), Fail> {
+    let left = verified(rt.alloc(), SCRIPT, JOURNAL, PAST_THE_LAST)?;
     assert_eq!(&rt; left.outcome.status, Status::Done);
     Ok(())
 }

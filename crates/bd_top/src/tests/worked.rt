@@ -3,6 +3,7 @@ use super::images::{blank, fill, one_file};
 use super::traces::trace_text;
 use super::{Inputs, SURE, command_on, first_image, joined, put};
 use crate::Status;
+use bd_machine::Event;
 use std::alloc::Global;
 use std::process::Abort;
 use std::test::Fail;
@@ -25,23 +26,38 @@ fn leaves(
     want: Want<'_>,
     after: &[u8],
 ) -> Result<(), Fail> {
-    let alloc = rt.alloc();
-    let script = want.script;
-    let again = image.as_slice().to_vec(alloc)?;
+    let again = image.as_slice().to_vec(rt.alloc())?;
+    let text = joined(rt.alloc(), [want.report, want.journal].as_slice())?;
+    writes(rt, image, want, text.as_slice(), after)?;
+    is_legal(rt, again, want.script, text.as_slice())
+}
+
+/// Expects that a replay writes this text and this image, and leaves this trace.
+fn writes(
+    rt: &(impl Abort + AllocGlobal),
+    image: Vec<u8>,
+    want: Want<'_>,
+    text: &[u8],
+    after: &[u8],
+) -> Result<(), Fail> {
     let words = ["replay", "image", "script", "out", "--journal"];
     let inputs = Inputs {
         image,
-        script,
+        script: want.script,
         journal: b"",
     };
-    let left = command_on(alloc, words.as_slice(), inputs, SURE)?;
+    let left = command_on(rt.alloc(), words.as_slice(), inputs, SURE)?;
     assert_eq!(rt; left.outcome.status, Status::Done);
-    let text = joined(alloc, [want.report, want.journal].as_slice())?;
-    assert!(rt; left.out.held() == text.as_slice());
-    let trace = trace_text(alloc, left.outcome.trace.as_slice())?;
-    assert!(rt; trace.as_slice() == want.trace);
+    assert!(rt; left.out.held() == text);
     assert!(rt; left.disk.held() == after);
-    is_legal(rt, again, script, text.as_slice())
+    has_trace(rt, left.outcome.trace.as_slice(), want.trace)
+}
+
+/// Expects that a trace has this text.
+fn has_trace(rt: &(impl Abort + AllocGlobal), trace: &[Event], want: &[u8]) -> Result<(), Fail> {
+    let text = trace_text(rt.alloc(), trace)?;
+    assert!(rt; text.as_slice() == want);
+    Ok(())
 }
 
 /// Expects that the journal in this text is found legal.
