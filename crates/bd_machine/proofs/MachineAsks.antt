@@ -71,6 +71,7 @@ module _ {T M P : Type 0} {K : sides.Ghosts T P} (x : Whole T M P) (script : Scr
         script = refl;
         shown = record { shows = stays.shows; reached = at_inside.reached; built = at_inside.built };
         events = stays.events;
+        turns = stays.turns;
       })
 
   module _ (q : ℕ) (inside : q < length script.processes) where
@@ -97,6 +98,7 @@ module _ {T M P : Type 0} {K : sides.Ghosts T P} (x : Whole T M P) (script : Scr
           };
           answer = took.answer;
           events = took.events;
+          turns = took.turns;
         })
 
   module _ (q : ℕ) (it : Process P) (there : process_in parts q ≡ Some it) (free : it.hand ≡ None) where

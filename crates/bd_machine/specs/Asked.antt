@@ -62,19 +62,22 @@ pub record Miss : Type 0 where
 
 -- ---- after
 
--- the machine shows the state after the turn of this actor, which is one of this row; the trace stays
+-- the machine shows the state after the turn of this actor, which is one of this row; the trace and the count of turns
+-- stay
 pub record TookRow {T M P : Type 0} (K : sides.Ghosts T P) (old new : Whole T M P) (m : State) (actor : ℕ) (row : Row) :
     Type 0 where
   pub script : new.script ≡ old.script
   pub shown : IsShown K new (after_turn m actor)
   pub answer : answer_of m actor ≡ Did row
   pub events : new.parts.log.events ≡ old.parts.log.events
+  pub turns : new.parts.log.turns ≡ old.parts.log.turns
 
--- the machine shows the same state; the trace stays
+-- the machine shows the same state; the trace and the count of turns stay
 pub record IsSameState {T M P : Type 0} (K : sides.Ghosts T P) (old new : Whole T M P) (m : State) : Type 0 where
   pub script : new.script ≡ old.script
   pub shown : IsShown K new m
   pub events : new.parts.log.events ≡ old.parts.log.events
+  pub turns : new.parts.log.turns ≡ old.parts.log.turns
 
 -- ---- what is told of a hand
 

@@ -38,7 +38,9 @@ state_shown script x =
       journal = x.log.entries;
       tables = tables_of x.tables;
       processes =
-          map (λ (y : ℕ × Process PlainPass). progress_shown (slice_index_or x.disk.held y.0 None) (phase_of y.1.phase) y.1)
+          map
+          (λ (y : ℕ × Process PlainPass).
+          progress_shown (slice_index_or x.disk.held y.0 None) (phase_of y.1.phase) y.1)
           (enumerate_from 0 x.processes.items);
       posted = [];
     }
