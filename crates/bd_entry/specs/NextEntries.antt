@@ -40,8 +40,8 @@ MissedGoDirect s p =
     piece_of_call p.call number ≡ Some piece → descriptor_of s p ≡ Some d → goes_direct d piece ≡ true
 
 -- a call that goes on, as a machine keeps it: the store is valid and the call within the limits, its entries so far are
--- its own and have not ended it, commands are outstanding of its pieces alone, once it has begun no refusal holds of it,
--- and the pieces that missed go to the device still
+-- its own and have not ended it, commands are outstanding of its pieces alone, once it has begun no refusal holds of
+-- it, and the pieces that missed go to the device still
 pub record IsReadyPlace (s : Store) (r : Running) : Type 0 where
   pub valid : Valid s
   pub within : IsCall r.place.call

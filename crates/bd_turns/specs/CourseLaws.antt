@@ -55,7 +55,8 @@ abbrev pub RunsEnd : Type 0
 RunsEnd =
     (v : Volume) (script : Script) → IsSoundVolume v → IsWithinLimits script → RunEnd (start_store v script) script
 
--- no run takes more turns than this: those of the longest schedule, and a round for each effective turn of the most calls
+-- no run takes more turns than this: those of the longest schedule, and a round for each effective turn of the most
+-- calls
 abbrev pub longest_run : ℕ
 longest_run = TURNS + turns_per_call * (PROCESSES * CALLS) * (2 * PROCESSES + 1)
 
