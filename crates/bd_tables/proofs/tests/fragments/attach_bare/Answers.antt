@@ -2,7 +2,7 @@
 use Rattle.std.proofs.Common.{ap, sym, subst}
 use Rattle.bd_tables.specs.Plain.{PlainState}
 use Rattle.bd_tables.proofs.Bare.{IsBare, either, shared-bare}
-use Rattle.bd_tables.proofs.tests.attach_bare.Goals as goal
+use Rattle.bd_tables.proofs.tests.fragments.attach_bare.Goals as goal
 
 pub returns : goal.returns
 returns g c = record {

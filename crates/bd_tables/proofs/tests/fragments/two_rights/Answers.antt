@@ -9,7 +9,7 @@ use Rattle.bd_tables.specs.State.{Rights}
 use Rattle.bd_tables.proofs.Bare.{IsBare, bare-agrees, empty-bare, shared-bare}
 use Rattle.bd_tables.proofs.Maps.{other_key, same_key-insert}
 use Rattle.bd_tables.proofs.TwoKeys.{processes_apart}
-use Rattle.bd_tables.proofs.tests.two_rights.Goals as goal
+use Rattle.bd_tables.proofs.tests.fragments.two_rights.Goals as goal
 
 pub attach-requires-clause-not_attached : goal.attach-requires-clause-not_attached
 attach-requires-clause-not_attached c =

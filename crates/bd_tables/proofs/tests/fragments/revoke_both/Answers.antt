@@ -2,7 +2,7 @@
 use Rattle.std.proofs.Common.{sym, subst}
 use Rattle.bd_tables.specs.Kernel.{IsOn, KernelState, KeyIs}
 use Rattle.bd_tables.proofs.TwoKeys.{other-detached, processes_apart}
-use Rattle.bd_tables.proofs.tests.revoke_both.Goals as goal
+use Rattle.bd_tables.proofs.tests.fragments.revoke_both.Goals as goal
 
 pub revoke-drained-requires : goal.revoke-drained-requires
 revoke-drained-requires g c =
