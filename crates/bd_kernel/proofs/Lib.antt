@@ -10,6 +10,7 @@ pub mod KernelPieces
 pub mod NextParts
 pub mod KeyLists
 pub mod Acts
+pub mod Blockers
 pub mod CallEnds
 pub mod CallsWithoutEntries
 pub mod DiskBytes

@@ -5,5 +5,6 @@ pub mod Changes
 pub mod Marks
 pub mod Sights
 pub mod Holders
+pub mod Blockers
 pub mod Turns
 pub mod Disks

@@ -13,6 +13,8 @@ use Rattle.bd_entry.specs.Refusals.{descriptor_of, file_of}
 use Rattle.bd_entry.specs.RulesOfRights.{MayMiss, ThePiece}
 use Rattle.bd_entry.specs.Store.{Store, user_of}
 use Rattle.bd_fs.specs.Files.{Files}
+use Rattle.bd_kernel.specs.declared.blocker.Blocker.{Blocker}
+use Rattle.bd_kernel.specs.Blockers.{blocker_in}
 use Rattle.bd_kernel.specs.Changes.{Rows}
 use Rattle.bd_kernel.specs.Holders.{Table, holder_in}
 use Rattle.bd_kernel.specs.Marks.{AreMarksOf, Marks, is_marked}
@@ -24,15 +26,19 @@ is_among number numbers = list_any (nat_eq number) numbers
 
 -- the marks of pieces are those of these entries, but for the pieces whose commands are outstanding
 pub record ArePieceMarksOf (m : Marks) (outstanding : List ℕ) (entries : List Entry) : Type 0 where
-  pub answered : (piece : ℕ) → is_among piece outstanding ≡ false → is_marked m.answered piece ≡ is_answered piece entries
-  pub missed : (piece : ℕ) → is_among piece outstanding ≡ false → is_marked m.missed piece ≡ has_missed piece entries
+  pub answered :
+      (piece : ℕ) → is_among piece outstanding ≡ false →
+      is_marked m.answered piece ≡ is_answered piece entries
+  pub missed :
+      (piece : ℕ) → is_among piece outstanding ≡ false →
+      is_marked m.missed piece ≡ has_missed piece entries
 
 -- whether the piece of this number is to be submitted: it goes to the device, and is untouched
 abbrev pub may_submit : Store → Running → ℕ → Bool
 may_submit s r number = is_for_device s r.place number && is_untouched r number
 
--- a call of a process with this user, marks of its entries so far, the pieces whose commands are outstanding, the oldest
--- first, and whether its entries end it
+-- a call of a process with this user, marks of its entries so far, the pieces whose commands are outstanding, the
+-- oldest first, and whether its entries end it
 pub record Progress : Type 0 where
   pub call : Call
   pub process : ℕ
@@ -47,28 +53,42 @@ pub record AreEntriesOf (c : Progress) (entries : List Entry) : Type 0 where
   pub marks : AreMarksOf c.marks entries
   pub finished : c.finished ≡ is_ended_by c.call entries
 
--- the answer is the next action of a call of a process, with these pieces outstanding, in each store of these files and
+-- this holds of the next action of a call of a process, with these pieces outstanding, in each store of these files and
 -- descriptors where the process has this user, whatever its entries so far may be of which the marks are
-abbrev pub IsNextActOf : Files → Table → Call → ℕ → ℕ → Marks → List ℕ → Option Act → Type 0
-IsNextActOf fs table call process uid marks outstanding answer =
+abbrev pub OfNextAct : Files → Table → Call → ℕ → ℕ → Marks → List ℕ → (Option Act → Type 0) → Type 0
+OfNextAct fs table call process uid marks outstanding Holds =
     InStore fs table.rows
     (λ s. user_of s process ≡ uid → (number : ℕ) (before : List Entry) → AreMarksOf marks before →
-    answer ≡ next_act s (holder_in table.held)
-    (record { place = place_of call process number before; outstanding = outstanding }))
+    Holds (next_act s (holder_in table.held)
+    (record { place = place_of call process number before; outstanding = outstanding })))
+
+-- the answer is that action
+abbrev pub IsNextActOf : Files → Table → Call → ℕ → ℕ → Marks → List ℕ → Option Act → Type 0
+IsNextActOf fs table call process uid marks outstanding answer =
+    OfNextAct fs table call process uid marks outstanding (λ act. answer ≡ act)
+
+-- the answer is what it waits for
+abbrev pub IsBlockerOf : Files → Table → Call → ℕ → ℕ → Marks → List ℕ → Option Blocker → Type 0
+IsBlockerOf fs table call process uid marks outstanding answer =
+    OfNextAct fs table call process uid marks outstanding (λ act. answer ≡ blocker_in act)
 
 -- the answer is the next action of the call in each store of these files and descriptors where its process has its
 -- user, whatever its entries so far may be
 abbrev pub IsNextAct : Files → Table → Progress → Option Act → Type 0
 IsNextAct fs table c answer = IsNextActOf fs table c.call c.process c.uid c.marks c.outstanding answer
 
--- the answer is the first action of a call of a process, which has no entry and no command, in each store of these files
--- and descriptors where the process has this user
-abbrev pub IsFirstAct : Files → Table → Call → ℕ → ℕ → Option Act → Type 0
-IsFirstAct fs table call process uid answer =
+-- the answer is what the call waits for there
+abbrev pub IsBlocker : Files → Table → Progress → Option Blocker → Type 0
+IsBlocker fs table c answer = IsBlockerOf fs table c.call c.process c.uid c.marks c.outstanding answer
+
+-- the answer is what a call of a process, which has no entry and no command, waits for in each store of these files and
+-- descriptors where the process has this user
+abbrev pub IsFirstBlocker : Files → Table → Call → ℕ → ℕ → Option Blocker → Type 0
+IsFirstBlocker fs table call process uid answer =
     InStore fs table.rows
     (λ s. user_of s process ≡ uid → (number : ℕ) →
-    answer ≡ next_act s (holder_in table.held)
-    (record { place = place_of call process number []; outstanding = [] }))
+    answer ≡ blocker_in (next_act s (holder_in table.held)
+    (record { place = place_of call process number []; outstanding = [] })))
 
 -- the answer is the file of the call in each store of these files and descriptors, whatever its entries so far may be
 abbrev pub IsFileOf : Files → Table → Progress → Option ℕ → Type 0

@@ -1,9 +1,11 @@
 //! What keeps a call from beginning: a reason, or the holder of its file.
 ghost use Rattle.std.specs.Prelude.{◌≡◌, ℕ, Some};
-ghost use Rattle.bd_entry.specs.Actions.{before_beginning, busy, busy_at_first, comes_before_holder, tests_for_holder, wait_for};
-ghost use Rattle.bd_entry.specs.Store.{user_of};
-ghost use Rattle.bd_entry.specs.Refusals.{first_refusal};
+ghost use Rattle.std.specs.Option.{option_map};
+ghost use Rattle.bd_entry.specs.Actions.{before_beginning, busy, busy_at_first, comes_before_holder, has_begun, tests_for_holder, wait_for};
+ghost use Rattle.bd_entry.specs.Calls.{Place};
+ghost use Rattle.bd_kernel.specs.Blockers.{busy_by};
 ghost use Rattle.bd_kernel.specs.Holders.{holder_in};
+ghost use Rattle.bd_kernel.specs.Marks.{AreMarksOf};
 ghost use Rattle.bd_kernel.specs.Sights.{AtPlace};
 
 use crate::descriptors::Descriptors;
@@ -13,8 +15,16 @@ use bd_base::{Call, FileId, Pid, Reason};
 use bd_entry::Act;
 use bd_fs::Fs;
 
+/// Whether a call with these marks of its entries has begun: it has one, or a command of it is outstanding.
+pub fn has_begun(running: &RunningCall, outstanding: &[u8]) -> bool
+    ensures { (p : Place) → AreMarksOf running.now p.before → result
+        ≡ has_begun (record { place = p; outstanding = outstanding.now }) }
+{
+    !outstanding.is_empty() || running.has_begun()
+}
+
 /// Whether the reason is tested before the file's holder is.
-fn comes_before_holder(reason: &Reason) -> bool
+pub fn comes_before_holder(reason: &Reason) -> bool
     ensures { result ≡ comes_before_holder reason.now }
 {
     match reason {
@@ -49,47 +59,47 @@ fn tests_for_holder(call: &Call) -> bool
     }
 }
 
-/// A process that meets this holder of a file waits, if that is another.
-fn wait_for(process: Pid, file: FileId, holder: Option<Pid>) -> Option<Act>
-    ensures { result ≡ wait_for process file holder }
+/// The file and its holder, where that is another process than this one, which then waits.
+fn wait_for(process: Pid, file: FileId, holder: Option<Pid>) -> Option<(FileId, Pid)>
+    ensures { option_map busy_by result ≡ wait_for process file holder }
 {
     match holder {
         Some(holder) => {
             if holder == process {
                 None
             } else {
-                Some(Act::Busy(file, holder))
+                Some((file, holder))
             }
         }
         None => None,
     }
 }
 
-/// The call waits for the holder of its file.
+/// The call's file and its holder, where that is another process: the call waits for it.
 pub fn busy(
     fs: &Fs,
     descriptors: &Descriptors,
     call: &Call,
     process: Pid,
     running: &RunningCall,
-) -> Option<Act>
+) -> Option<(FileId, Pid)>
     ensures { AtPlace fs.now descriptors.now.rows call.now process running.now.opened
-        (λ s p. result ≡ busy s (holder_in descriptors.now.held) p) }
+        (λ s p. option_map busy_by result ≡ busy s (holder_in descriptors.now.held) p) }
 {
     let file = file_of(fs, descriptors.table(), call, process, running)?;
     wait_for(process, file, descriptors.holder(file))
 }
 
-/// The call waits for it as it begins, where it tests that.
-fn busy_at_first(
+/// The same as the call begins, where it tests that.
+pub fn busy_at_first(
     fs: &Fs,
     descriptors: &Descriptors,
     call: &Call,
     process: Pid,
     running: &RunningCall,
-) -> Option<Act>
+) -> Option<(FileId, Pid)>
     ensures { AtPlace fs.now descriptors.now.rows call.now process running.now.opened
-        (λ s p. result ≡ busy_at_first s (holder_in descriptors.now.held) p) }
+        (λ s p. option_map busy_by result ≡ busy_at_first s (holder_in descriptors.now.held) p) }
 {
     if tests_for_holder(call) {
         busy(fs, descriptors, call, process, running)
@@ -111,14 +121,14 @@ pub fn before_beginning(
         (λ s p. result ≡ before_beginning s (holder_in descriptors.now.held) p reason) }
 {
     let Some(reason) = reason else {
-        return busy_at_first(fs, descriptors, call, process, running);
+        let (file, holder) = busy_at_first(fs, descriptors, call, process, running)?;
+        return Some(Act::Busy(file, holder));
     };
     if comes_before_holder(&reason) {
         return Some(Act::Refuse(None, reason));
     }
-    let busy = busy_at_first(fs, descriptors, call, process, running);
-    if busy.is_some() {
-        return busy;
+    match busy_at_first(fs, descriptors, call, process, running) {
+        Some((file, holder)) => Some(Act::Busy(file, holder)),
+        None => Some(Act::Refuse(None, reason)),
     }
-    Some(Act::Refuse(None, reason))
 }

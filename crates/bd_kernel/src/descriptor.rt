@@ -35,7 +35,15 @@ impl Model for Descriptor {
 
     ghost Value = { Descriptor };
 
-    ghost view = { λ a. record { file = a.file; mode = a.mode; how = a.how; attached = a.attached; cleared = a.cleared; known = a.known; told = a.told } };
+    ghost view = { λ a. record {
+      file = a.file;
+      mode = a.mode;
+      how = a.how;
+      attached = a.attached;
+      cleared = a.cleared;
+      known = a.known;
+      told = a.told;
+    } };
 }
 
 /// What changes in a descriptor.

@@ -1,19 +1,21 @@
 //! A running call of a process, and the action that it needs next.
-ghost use Rattle.std.specs.Prelude.{◌≡◌, ℕ, ◌<◌, ◌≤◌, ◌++◌, ◌∷◌, ◌&&◌, [], None, cond, true, false, All, Contains, IfOk, List, Some, drop, length, nat_eq};
+ghost use Rattle.std.specs.Prelude.{◌≡◌, ◌≢◌, ℕ, ◌<◌, ◌≤◌, ◌++◌, ◌∷◌, ◌&&◌, [], None, cond, true, false, All, Contains, IfOk, List, Some, drop, length, nat_eq};
 ghost use Rattle.std.specs.Option.{option_or};
 ghost use Rattle.bd_entry.specs.declared.entry.Entry.{Entry};
 ghost use Rattle.bd_base.specs.Scripts.{IsCall};
 ghost use Rattle.bd_base.specs.declared.limits.TheConstants.{PIECES};
-ghost use Rattle.bd_entry.specs.Actions.{before_beginning, has_begun, keys_to_revoke, kernel_part, own_act, revoke, submit_or_poll};
+ghost use Rattle.bd_entry.specs.Actions.{before_beginning, keys_to_revoke, kernel_part, own_act, revoke, submit_or_poll};
 ghost use Rattle.bd_entry.specs.Refusals.{first_refusal};
 ghost use Rattle.bd_entry.specs.Store.{user_of};
 ghost use Rattle.bd_kernel.specs.Holders.{holder_in};
 ghost use Rattle.bd_kernel.specs.Marks.{AreMarksOf, HasPieceOf};
 ghost use Rattle.bd_kernel.specs.Sights.{AtPlace, place_of};
 ghost use Rattle.bd_entry.specs.Calls.{Place, fd_of_call};
-ghost use Rattle.bd_kernel.specs.Turns.{ArePieceMarksOf, AreEntriesOf, IsFileOf, IsFirstAct, IsNextAct, IsNextActOf, IsSameCall, MayMissAt, Takes};
+ghost use Rattle.bd_kernel.specs.Turns.{ArePieceMarksOf, AreEntriesOf, IsBlocker, IsFileOf, IsFirstBlocker, IsNextAct, IsNextActOf, IsSameCall, MayMissAt, Takes};
+ghost use Rattle.bd_kernel.specs.declared.blocker.Blocker.TheVariants.{Completion};
 
-use crate::beginning::before_beginning;
+use crate::beginning::{before_beginning, has_begun};
+use crate::blocker::{Blocker, next_blocker};
 use crate::calls::fd_of_call;
 use crate::descriptors::Descriptors;
 use crate::files::{attach_by, open_directly, open_file, tell_size, truncate, unlink};
@@ -145,7 +147,7 @@ fn own_act(
         Call::Map { fd } => attach_by(fs, table, process, *fd),
         Call::Close { .. } => Some(Act::Closed),
         Call::RawRead { .. } | Call::RawWrite { .. } => {
-            submit_or_poll(table, call, process, running, outstanding)
+            Some(submit_or_poll(table, call, process, running, outstanding)?.act())
         }
     }
 }
@@ -165,19 +167,10 @@ fn pieces_act(
         ≡ option_or (submit_or_poll s (record { place = p; outstanding = outstanding.now }))
         (kernel_part s (holder_in descriptors.now.held) p)) }
 {
-    let act = submit_or_poll(descriptors.table(), call, process, running, outstanding);
-    if act.is_some() {
-        return act;
+    match submit_or_poll(descriptors.table(), call, process, running, outstanding) {
+        Some(act) => Some(act.act()),
+        None => kernel_part(fs, descriptors, call, process, running),
     }
-    kernel_part(fs, descriptors, call, process, running)
-}
-
-/// Whether a call with these marks of its entries has begun: it has one, or a command of it is outstanding.
-fn has_begun(running: &RunningCall, outstanding: &[u8]) -> bool
-    ensures { (p : Place) → AreMarksOf running.now p.before → result
-        ≡ has_begun (record { place = p; outstanding = outstanding.now }) }
-{
-    !outstanding.is_empty() || running.has_begun()
 }
 
 /// What keeps the call of a process of this user from beginning, where it has not begun.
@@ -291,20 +284,37 @@ impl KernelCall {
         )
     }
 
-    /// What [`KernelCall::next`] answers of this call of a process of this user as soon as it is begun. This takes no
-    /// memory.
-    pub fn first(
+    /// What the call waits for: that which [`KernelCall::next`] would wait for, if it would. No action is made for
+    /// this, so that a turn that waits copies nothing.
+    pub fn blocker(&self, fs: &Fs, descriptors: &Descriptors) -> Option<Blocker>
+        ensures blocker { IsBlocker fs.now descriptors.now self.now result }
+        ensures outstanding { result ≡ Some Completion → 0 < length self.now.outstanding }
+    {
+        next_blocker(
+            fs,
+            descriptors,
+            &self.call,
+            self.process,
+            self.uid,
+            &self.running,
+            self.outstanding.as_slice(),
+        )
+    }
+
+    /// What [`KernelCall::blocker`] answers of this call of a process of this user as soon as it is begun.
+    pub fn first_blocker(
         fs: &Fs,
         descriptors: &Descriptors,
         call: &Call,
         process: Pid,
         uid: u32,
-    ) -> Option<Act>
+    ) -> Option<Blocker>
         requires { IsCall call.now }
-        ensures { IsFirstAct fs.now descriptors.now call.now process uid result }
+        ensures blocker { IsFirstBlocker fs.now descriptors.now call.now process uid result }
+        ensures outstanding { result ≢ Some Completion }
     {
         let running = RunningCall::new();
-        next_act(fs, descriptors, call, process, uid, &running, &[])
+        next_blocker(fs, descriptors, call, process, uid, &running, &[])
     }
 
     /// Takes note of an entry that was added in its name: by its processor, by its device engine, or by the invalidation

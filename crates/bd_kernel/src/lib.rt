@@ -2,6 +2,7 @@
 #![tactic(auto)]
 
 mod beginning;
+mod blocker;
 mod calls;
 mod descriptor;
 mod descriptors;
@@ -22,6 +23,7 @@ mod row;
 mod running_call;
 mod table;
 
+pub use blocker::Blocker;
 pub use calls::{
     bytes_for_piece, does_write, fd_of_call, is_raw, named_fd, piece_end, piece_of, pieces_of,
 };

@@ -1,5 +1,5 @@
 //! The actions on pieces of reads, writes and raw commands.
-ghost use Rattle.std.specs.Prelude.{◌≡◌, ℕ, ◌&&◌, [], None, Some, length};
+ghost use Rattle.std.specs.Prelude.{◌≡◌, ◌<◌, ℕ, ◌&&◌, [], None, Some, length};
 ghost use Rattle.std.specs.List.{find};
 ghost use Rattle.std.specs.Option.{option_and_then, option_copied, option_map, option_map_or, option_or};
 ghost use Rattle.bd_base.specs.Scripts.{IsCall};
@@ -9,6 +9,8 @@ ghost use Rattle.bd_entry.specs.Calls.{Place, piece_of_call};
 ghost use Rattle.bd_entry.specs.Refusals.{descriptor_of, file_of};
 ghost use Rattle.bd_entry.specs.Store.{Store};
 ghost use Rattle.bd_fs.specs.Files.{Files};
+ghost use Rattle.bd_kernel.specs.Blockers.{act_for_device};
+ghost use Rattle.bd_kernel.specs.declared.pieces.DeviceAct.TheVariants.{Poll as Polls};
 ghost use Rattle.bd_kernel.specs.Holders.{holder_in};
 ghost use Rattle.bd_kernel.specs.Changes.{Rows};
 ghost use Rattle.bd_kernel.specs.Sights.{AtPlace, InStore};
@@ -94,6 +96,26 @@ fn piece_to_submit(
     None
 }
 
+/// What the processor does about the pieces that go to the device.
+pub enum DeviceAct {
+    /// The command of this piece is submitted.
+    Submit(u8),
+    /// A completion is taken.
+    Poll,
+}
+
+impl DeviceAct {
+    /// The same as an action of the call.
+    pub fn act(self) -> Act
+        ensures { result ≡ act_for_device self }
+    {
+        match self {
+            DeviceAct::Submit(piece) => Act::Submit(piece),
+            DeviceAct::Poll => Act::Poll,
+        }
+    }
+}
+
 /// Pieces are submitted in order, and then their completions taken.
 pub fn submit_or_poll(
     table: &DescriptorTable,
@@ -101,19 +123,20 @@ pub fn submit_or_poll(
     process: Pid,
     running: &RunningCall,
     outstanding: &[u8],
-) -> Option<Act>
+) -> Option<DeviceAct>
     requires { IsCall call.now }
-    ensures { (fs : Files) → AtPlace fs table.now call.now process running.now.opened
-        (λ s p. ArePieceMarksOf running.now outstanding.now p.before
-        → result ≡ submit_or_poll s (record { place = p; outstanding = outstanding.now })) }
+    ensures act { (fs : Files) → AtPlace fs table.now call.now process running.now.opened
+        (λ s p. ArePieceMarksOf running.now outstanding.now p.before → option_map act_for_device result
+        ≡ submit_or_poll s (record { place = p; outstanding = outstanding.now })) }
+    ensures outstanding { result ≡ Some Polls → 0 < length outstanding.now }
 {
     if let Some(number) = piece_to_submit(table, call, process, running, outstanding) {
-        return Some(Act::Submit(number));
+        return Some(DeviceAct::Submit(number));
     }
     if outstanding.is_empty() {
         None
     } else {
-        Some(Act::Poll)
+        Some(DeviceAct::Poll)
     }
 }
 
@@ -189,9 +212,8 @@ pub fn kernel_part(
 {
     let table = descriptors.table();
     let number = kernel_number(table, call, process, running)?;
-    let busy = busy(fs, descriptors, call, process, running);
-    if busy.is_some() {
-        return busy;
+    if let Some((file, holder)) = busy(fs, descriptors, call, process, running) {
+        return Some(Act::Busy(file, holder));
     }
     let piece = piece_of(call, number)?;
     let descriptor = descriptor_of(table, call, process, running)?;

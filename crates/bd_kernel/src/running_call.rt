@@ -41,7 +41,13 @@ impl Model for RunningCall {
 
     ghost Value = { Marks };
 
-    ghost view = { λ a. record { begun = a.begun; opened = a.opened; answered = a.answered; missed = a.missed; cleared = a.cleared } };
+    ghost view = { λ a. record {
+      begun = a.begun;
+      opened = a.opened;
+      answered = a.answered;
+      missed = a.missed;
+      cleared = a.cleared;
+    } };
 
     ghost invariant = { λ a. HasSpareMarks a.has_cleared a.cleared };
 }

@@ -34,13 +34,17 @@ of_processor m process within =
     (cond (nat_lt process (2 * process_count m)) (engine_outcome m (process - process_count m)) (invalidation_outcome m))
     (lt-ltb process (process_count m) within)
 
--- the turn of a processor comes to what its running call's action does
+-- the turn of a processor comes to what its running call's action, if it has one, does
+pub outcome_at : (m : State) (process : ℕ) (p : Place) → running m process ≡ Some p →
+    outcome_of m process ≡ option_map_or (outcome_of_action m p) (next_action m p) Nothing
+outcome_at m process p is =
+    let each : Place → Outcome = λ p. option_map_or (outcome_of_action m p) (next_action m p) Nothing in
+    of_processor m process (process_within m process p is) ∙ ap (λ (o : Option Place). option_map_or each o Nothing) is
+
 pub outcome_for : (m : State) (process : ℕ) (p : Place) (action : Action) → running m process ≡ Some p →
     next_action m p ≡ Some action → outcome_of m process ≡ outcome_of_action m p action
 outcome_for m process p action is next =
-    let each : Place → Outcome = λ p. option_map_or (outcome_of_action m p) (next_action m p) Nothing in
-    of_processor m process (process_within m process p is) ∙ ap (λ (o : Option Place). option_map_or each o Nothing) is
-    ∙ ap (λ (o : Option Action). option_map_or (outcome_of_action m p) o Nothing) next
+    outcome_at m process p is ∙ ap (λ (o : Option Action). option_map_or (outcome_of_action m p) o Nothing) next
 
 -- it has nothing to do where no call runs
 pub outcome_idle : (m : State) (process : ℕ) → process < process_count m → running m process ≡ None →

@@ -1,5 +1,5 @@
 -- What calls that are built do next: they revoke nothing, and poll only where a command is outstanding.
-use Rattle.std.proofs.Common.{◌≡◌, ℕ, ◌<◌, Bool, true, false, ◌&&◌, cond, List, [], ◌∷◌, length, Option, None, Some, refl, sym, ap, arith}
+use Rattle.std.proofs.Common.{◌≡◌, ℕ, ◌<◌, Bool, true, false, ◌&&◌, cond, List, [], ◌∷◌, length, Option, None, Some, refl, sym, ap, subst, arith}
 use Rattle.std.specs.Prelude.{All, slice_get}
 use Rattle.std.specs.Option.{option_and_then, option_map, option_map_or, option_or}
 use Rattle.std.specs.List.{find}
@@ -21,8 +21,12 @@ use Rattle.bd_entry.specs.Calls.{Place, call_at, does_write, fd_of, piece_end, p
 use Rattle.bd_entry.specs.Refusals.{descriptor_of, file_of, first_refusal, growth_reason_of, is_next_for_kernel, next_size}
 use Rattle.bd_entry.specs.Store.{Descriptor, Store, descriptor_at, lowest_fd, next_part, size_in}
 use Rattle.bd_entry.proofs.CallPieces.{All-slice_get}
-use Rattle.bd_machine.specs.Turns.{AreBuilt, is_built}
+use Rattle.bd_machine.specs.declared.parts.Parts.{Parts}
+use Rattle.bd_machine.specs.Turns.{AreBuilt, IsAt, is_built}
+use Rattle.bd_turns.specs.State.{State, running}
 use Rattle.bd_turns.proofs.OwnActs.{Fails, fails-map, fails-some, fails-then}
+use Rattle.bd_turns.proofs.RunningPlaces.{runs_at}
+use Rattle.bd_tables.specs.declared.sides.Tables as sides
 
 -- ---- tests of what may be there
 
@@ -166,7 +170,7 @@ polls_some s holders r built next = by r.outstanding refl
 
 -- ---- the calls of a script that is built
 
-pub built_at : (script : Script) (at : At) (call : Call) → AreBuilt script → call_at script at ≡ Some call → is_built call ≡ true
+built_at : (script : Script) (at : At) (call : Call) → AreBuilt script → call_at script at ≡ Some call → is_built call ≡ true
 built_at script at call built called = by (slice_get script.processes at.process) refl called
   where
     by : (o : Option ScriptProcess) → slice_get script.processes at.process ≡ o →
@@ -175,3 +179,9 @@ built_at script at call built called = by (slice_get script.processes at.process
     by (Some p) there is =
         All-slice_get (λ (call : Call). is_built call ≡ true) p.calls at.call call
         (All-slice_get (λ (p : ScriptProcess). All (λ (call : Call). is_built call ≡ true) p.calls) script.processes at.process p built there) is
+
+-- so is that of a process of a machine
+pub built_here : {T M P : Type 0} {K : sides.Ghosts T P} (script : Script) (x : Parts T M P) (m : State) (process : ℕ) (p : Place) → IsAt K script x m →
+    running m process ≡ Some p → is_built p.call ≡ true
+built_here script x m process p is runs =
+    built_at m.script p.at p.call (subst AreBuilt (sym is.shows.script_is) is.built) (runs_at m process p runs).called

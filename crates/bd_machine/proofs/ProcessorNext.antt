@@ -10,6 +10,8 @@ use Rattle.bd_entry.specs.Actions.{Holders, Running, next_act}
 use Rattle.bd_entry.specs.Calls.{Place}
 use Rattle.bd_entry.specs.Store.{Store, user_of}
 use Rattle.bd_fs.specs.Files.{Files}
+use Rattle.bd_kernel.specs.declared.blocker.Blocker.{Blocker}
+use Rattle.bd_kernel.specs.Blockers.{blocker_in}
 use Rattle.bd_kernel.specs.Disks.{DiskState, IsDiskOf, files_on, table_on}
 use Rattle.bd_kernel.specs.Holders.{Table, holder_in}
 use Rattle.bd_kernel.specs.Sights.{place_of, store_of}
@@ -30,15 +32,16 @@ pub store_shown : (d : DiskState) (s : Store) → IsDiskOf d s → store_of (fil
 store_shown d s is =
     λ i. record { total = sym is.total i; uids = s.uids; files = sym is.files i; bytes = s.bytes; opens = sym is.opens i; work = s.work }
 
--- what a call does next as its parts say is what it does in the state that they show
-pub next_shown : {T M P : Type 0} {K : sides.Ghosts T P} (script : Script) (x : Parts T M P) (m : State) (p : Place) (y : Process P) (c : kernel.Progress)
-    (fs : Files) (table : Table)
-    (answer : Option Act) → RunsHere K script x m p y c → fs ≡ files_on x.disk → table ≡ table_on x.disk → kernel.IsNextAct fs table c answer →
-    answer ≡ next_act m.store (holder_of m) (running_of m p)
-next_shown script x m p y c fs table answer here files rows is =
+-- what holds of the next action of a call as its parts say holds of that in the state that they show
+pub of_next_shown : {T M P : Type 0} {K : sides.Ghosts T P} (script : Script) (x : Parts T M P) (m : State) (p : Place) (y : Process P)
+    (c : kernel.Progress) (fs : Files) (table : Table) (Holds : Option Act → Type 0) → RunsHere K script x m p y c → fs ≡ files_on x.disk →
+    table ≡ table_on x.disk → kernel.OfNextAct fs table c.call c.process c.uid c.marks c.outstanding Holds →
+    Holds (next_act m.store (holder_of m) (running_of m p))
+of_next_shown script x m p y c fs table Holds here files rows is =
     let s : Store = store_of (files_on x.disk) x.disk.rows m.store.uids m.store.bytes m.store.work in
-    let next : kernel.IsNextAct (files_on x.disk) (table_on x.disk) c answer =
-    subst (λ (t : Table). kernel.IsNextAct (files_on x.disk) t c answer) rows (subst (λ (f : Files). kernel.IsNextAct f table c answer) files is) in
+    let next : kernel.OfNextAct (files_on x.disk) (table_on x.disk) c.call c.process c.uid c.marks c.outstanding Holds =
+    subst (λ (t : Table). kernel.OfNextAct (files_on x.disk) t c.call c.process c.uid c.marks c.outstanding Holds) rows
+    (subst (λ (f : Files). kernel.OfNextAct f table c.call c.process c.uid c.marks c.outstanding Holds) files is) in
     let mine : IsCallKept m p c = kept script x m p y c here in
     let user : user_of s c.process ≡ c.uid = ap (user_of m.store) mine.process ∙ sym mine.uid in
     let store : s ≡ m.store = store_shown x.disk m.store here.shows.disk in
@@ -49,9 +52,25 @@ next_shown script x m p y c fs table answer here files rows is =
       place = record { call = mine.call i; at = record { process = mine.process i; call = p.at.call }; before = p.before };
       outstanding = mine.outstanding i;
     } in
-    next m.store.uids m.store.bytes m.store.work user p.at.call p.before mine.entries.marks
-    ∙ ap (λ (t : Store). next_act t (holder_in x.disk.held) kept_run) store
-    ∙ ap (λ (h : Holders). next_act m.store h kept_run) holders ∙ ap (λ (r : Running). next_act m.store (holder_of m) r) run
+    subst Holds
+    (ap (λ (t : Store). next_act t (holder_in x.disk.held) kept_run) store
+    ∙ ap (λ (h : Holders). next_act m.store h kept_run) holders ∙ ap (λ (r : Running). next_act m.store (holder_of m) r) run)
+    (next m.store.uids m.store.bytes m.store.work user p.at.call p.before mine.entries.marks)
+
+-- so what it does next is what it does in that state
+pub next_shown : {T M P : Type 0} {K : sides.Ghosts T P} (script : Script) (x : Parts T M P) (m : State) (p : Place) (y : Process P) (c : kernel.Progress)
+    (fs : Files) (table : Table)
+    (answer : Option Act) → RunsHere K script x m p y c → fs ≡ files_on x.disk → table ≡ table_on x.disk → kernel.IsNextAct fs table c answer →
+    answer ≡ next_act m.store (holder_of m) (running_of m p)
+next_shown script x m p y c fs table answer here files rows is =
+    of_next_shown script x m p y c fs table (λ act. answer ≡ act) here files rows is
+
+-- and so is what it waits for
+pub blocker_shown : {T M P : Type 0} {K : sides.Ghosts T P} (script : Script) (x : Parts T M P) (m : State) (p : Place) (y : Process P)
+    (c : kernel.Progress) (fs : Files) (table : Table) (answer : Option Blocker) → RunsHere K script x m p y c → fs ≡ files_on x.disk →
+    table ≡ table_on x.disk → kernel.IsBlocker fs table c answer → answer ≡ blocker_in (next_act m.store (holder_of m) (running_of m p))
+blocker_shown script x m p y c fs table answer here files rows is =
+    of_next_shown script x m p y c fs table (λ act. answer ≡ blocker_in act) here files rows is
 
 -- the place of the running call of a process, which names the process
 abbrev pub place_for : State → ℕ → Call → List Entry → Place

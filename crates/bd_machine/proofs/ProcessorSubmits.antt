@@ -1,8 +1,7 @@
 -- The turns of a processor that submit a command or take a completion.
-use Rattle.std.proofs.Common.{◌≡◌, ℕ, zero, suc, ◌<◌, ◌≤◌, cond, List, [], ◌∷◌, ◌++◌, length, map, drop, None, Some, refl, sym, ap, ◌∙◌, subst, arith}
-use Rattle.std.specs.Prelude.{min, slice_index_or, All, Contains}
+use Rattle.std.proofs.Common.{◌≡◌, ℕ, ◌<◌, cond, List, [], ◌∷◌, ◌++◌, length, map, drop, None, Some, refl, sym, ap, ◌∙◌, subst, arith}
+use Rattle.std.specs.Prelude.{slice_index_or}
 use Rattle.std.specs.Option.{option_and_then}
-use Rattle.std.proofs.lemmas.List.Elements.{All-head, All-tail}
 use Rattle.std.proofs.lemmas.Option.{slice_get_within}
 use Rattle.bd_base.specs.declared.script.Script.{Script}
 use Rattle.bd_base.specs.declared.volume.Volume.{Volume}
@@ -16,14 +15,14 @@ use Rattle.bd_machine.specs.Shows.{IsCommandOf, IsProcessAt, Shows, completed_of
 use Rattle.bd_machine.specs.Turns.{AreFew, EndsTurn, HasBegun, TookTurn, process_in}
 use Rattle.bd_machine.proofs.ProcessorCommands.{HasRoom, RunsHere, has_room, outstanding_kept, polled_at, still_runs, submitted_at}
 use Rattle.bd_machine.proofs.ProcessorEnds.{none_later, took_did}
-use Rattle.bd_machine.proofs.ProcessorFacts.{few_shown, is_counted, outcome_for, took_wait}
+use Rattle.bd_machine.proofs.ProcessorFacts.{few_shown, is_counted, outcome_for}
 use Rattle.bd_machine.proofs.ProcessorSteps.{begun_now, own_step, with_process}
 use Rattle.bd_machine.proofs.Showing.{end_step}
 use Rattle.bd_queue_pair.specs.declared.command.Command.{Command}
 use Rattle.bd_queue_pair.specs.declared.command.Done.{Done}
 use Rattle.bd_queue_pair.specs.Queues.{Queues}
 use Rattle.bd_turns.specs.declared.turn.Row.TheVariants as rows
-use Rattle.bd_turns.specs.declared.turn.Turn.TheVariants.{Did, Waits}
+use Rattle.bd_turns.specs.declared.turn.Turn.TheVariants.{Did}
 use Rattle.bd_turns.specs.declared.turn.Wait.TheVariants as waits
 use Rattle.bd_turns.specs.Processors as processors
 use Rattle.bd_turns.specs.Processors.{Action, action_for, least_of, least_outstanding, next_action, running_of}
@@ -41,33 +40,6 @@ pub there_is : {T M P : Type 0} {K : sides.Ghosts T P} (script : Script) (x : Pa
 there_is script x m process y shows there =
     let within = slice_get_within x.processes.items process y there in
     omega (arith, within, shows.count, shows.progresses)
-
--- the least of a list is the one that the abstract machine tells
-least_below : (least : ℕ) (xs : List ℕ) (low : ℕ) → low ≤ least → All (λ x. low ≤ x) xs → low ≤ least_of least xs
-least_below least [] low below all = below
-least_below least (x ∷ xs) low below all =
-    let head : low ≤ x = All-head (λ x. low ≤ x) x xs all in
-    least_below (min least x) xs low (omega arith) (All-tail (λ x. low ≤ x) x xs all)
-
-least_most : (least : ℕ) (xs : List ℕ) → least_of least xs ≤ least
-least_most least [] = omega arith
-least_most least (x ∷ xs) = let rest = least_most (min least x) xs in omega (arith, rest)
-
-least_at : (least : ℕ) (xs : List ℕ) (k x : ℕ) → k < length xs → slice_index_or xs k x ≡ x → least_of least xs ≤ x
-least_at least [] k x below is = absurd (omega arith)
-least_at least (y ∷ xs) zero x below is = let rest = least_most (min least y) xs in omega (arith, rest, is)
-least_at least (y ∷ xs) (suc k) x below is = least_at (min least y) xs k x (omega arith) is
-
-least_is : (xs : List ℕ) (least : ℕ) → Contains xs least → All (λ x. least ≤ x) xs → least ≡ least_outstanding xs
-least_is [] least among low = absurd (omega (arith, among.1))
-least_is (x ∷ xs) least among low =
-    let above = least_below x xs least (All-head (λ x. least ≤ x) x xs low) (All-tail (λ x. least ≤ x) x xs low) in
-    let below = by among.0 among.1 among.2 in
-    omega (arith, above, below)
-  where
-    by : (k : ℕ) → k < length (x ∷ xs) → slice_index_or (x ∷ xs) k least ≡ least → least_of x xs ≤ least
-    by zero within is = let most = least_most x xs in omega (arith, most, is)
-    by (suc k) within is = least_at x xs k least (omega arith) is
 
 -- ---- a submission
 
@@ -142,24 +114,7 @@ module _ {T M P : Type 0} {K : sides.Ghosts T P} (script : Script) (x : Parts T 
   shown : progress_of m p.at.process ≡ progress_shown (slice_index_or x.disk.held p.at.process None) at_y.phase y
   shown = at_y.progress
 
-  -- where no completion has come the turn waits
-  pub took_no_completion : (old : Parts T M P) (least : ℕ) → y.queue.completed ≡ [] → x.log.events ≡ old.log.events → x.log.turns ≡ old.log.turns →
-      Contains c.outstanding least → All (λ piece. least ≤ piece) c.outstanding →
-      TookTurn K script old x m p.at.process (Waits (waits.Completion least))
-  took_no_completion old least none events turns among low =
-      let empty : (progress_of m p.at.process).completed ≡ [] =
-      ap (λ (g : Progress). g.completed) shown ∙ ap (λ (l : List Done). map completed_of l) none in
-      let mine : c.outstanding ≡ outstanding (progress_of m p.at.process) = outstanding_kept script x m p y c here in
-      let is : least ≡ least_outstanding (outstanding (progress_of m p.at.process)) =
-      least_is c.outstanding least among low ∙ ap (λ (l : List ℕ). least_outstanding l) mine in
-      subst (λ (n : ℕ). TookTurn K script old x m p.at.process (Waits (waits.Completion n))) (sym is)
-      (took_wait script old x m p.at.process (waits.Completion (least_outstanding (outstanding (progress_of m p.at.process)))) here.shows
-      (outcome_for m p.at.process p
-      (processors.WaitsFor (waits.Completion (least_outstanding (outstanding (progress_of m p.at.process))))) here.runs
-      (acting_polls [] empty _ refl))
-      events turns)
-
-  -- where one has, a command is outstanding
+  -- where a completion has come, a command is outstanding
   pub polled_outstanding : (done : Done) (rest : List Done) → y.queue.completed ≡ done ∷ rest → 0 < length c.outstanding
   polled_outstanding done rest first =
       let is : (progress_of m p.at.process).completed ≡ completed_of done ∷ map completed_of rest =

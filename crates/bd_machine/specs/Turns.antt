@@ -19,6 +19,8 @@ use Rattle.bd_entry.specs.Effects.{after_call, after_telling, effect_of, tells_s
 use Rattle.bd_entry.specs.NextEntries.{IsLegalAt}
 use Rattle.bd_entry.specs.Refusals.{file_of}
 use Rattle.bd_entry.specs.Store.{Descriptor, Store, Valid, descriptor_at}
+use Rattle.bd_kernel.specs.declared.blocker.Blocker.{Blocker}
+use Rattle.bd_kernel.specs.declared.blocker.Blocker.TheVariants as blockers
 use Rattle.bd_kernel.specs.Changes.{slot_at}
 use Rattle.bd_kernel.specs.Disks.{DiskState, IsDiskOf}
 use Rattle.bd_kernel.specs.Holders.{holder_in}
@@ -38,7 +40,7 @@ use Rattle.bd_turns.specs.declared.turn.Wait.TheVariants as waits
 use Rattle.bd_turns.specs.Course.{event_of}
 use Rattle.bd_turns.specs.Processors.{Adds, next_action, running_of}
 use Rattle.bd_turns.specs.State.{State, holder_of, running}
-use Rattle.bd_turns.specs.Turns.{after_turn, answer_of, cells_of_part, holds_after, turns_per_call}
+use Rattle.bd_turns.specs.Turns.{Outcome, Waiting, after_turn, answer_of, cells_of_part, holds_after, outcome_of, turns_per_call}
 
 -- ---- the calls that are built
 
@@ -84,10 +86,19 @@ pub record IsNextAct (m : State) (process : ℕ) (act : Act) : Type 0 where
   pub running_is : running m process ≡ Some place
   pub next : next_act m.store (holder_of m) (running_of m place) ≡ Some act
 
--- the action is this wait for the holder of a file
-abbrev pub IsWaitFor : Act → Wait → Type 0
-IsWaitFor (acts.Busy file holder) wait = wait ≡ waits.Busy file holder
-IsWaitFor act wait = ⊥
+-- the wait for the holder of a file, where that is what is waited for
+abbrev pub wait_for_holder : Blocker → Option Wait
+wait_for_holder (blockers.Holder file holder) = Some (waits.Busy file holder)
+wait_for_holder blockers.Completion = None
+
+-- what an outcome waits for, if it is a wait
+abbrev pub wait_in : Outcome → Option Wait
+wait_in (Waiting wait) = Some wait
+wait_in outcome = None
+
+-- what the turn of the actor waits for, if it waits
+abbrev pub wait_of : State → ℕ → Option Wait
+wait_of m actor = wait_in (outcome_of m actor)
 
 -- whether the action adds an entry
 abbrev pub adds_entry : Act → Bool
@@ -135,6 +146,10 @@ pub record HasBegun {T M P : Type 0} (x : Parts T M P) (process : ℕ) : Type 0 
   pub it : Process P
   pub there : process_in x process ≡ Some it
   pub begun : IsSome it.call
+
+-- it was not, if there is one
+abbrev pub IsUnbegun : {T M P : Type 0} → Parts T M P → ℕ → Type 0
+IsUnbegun {T} {M} {P} x process = (y : Process P) → process_in x process ≡ Some y → y.call ≡ None
 
 -- a completion of the process has come that was not polled
 abbrev pub HasCompletion : {T M P : Type 0} → Parts T M P → ℕ → Type 0

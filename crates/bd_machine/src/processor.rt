@@ -7,7 +7,7 @@ ghost use Rattle.bd_entry.specs.declared.act.Act.TheVariants.{Poll, Submit as Su
 ghost use Rattle.bd_entry.specs.Calls.{Place, call_at, fd_of, piece_of_call};
 ghost use Rattle.bd_machine.specs.declared.process.Process.{Process};
 ghost use Rattle.bd_machine.specs.Shows.{IsCommandOf};
-ghost use Rattle.bd_machine.specs.Turns.{AreCellsFor, AttachesByOpen, CanChangeTables, HasBegun, HasCompletion, IsAt, IsHeldAfter, IsNextAct, IsRunning, IsWaitFor, PassesStay, Sight, StaysAt, TableChange, TookTurn, adds_entry, process_in};
+ghost use Rattle.bd_machine.specs.Turns.{AreCellsFor, AttachesByOpen, CanChangeTables, HasBegun, HasCompletion, IsAt, IsHeldAfter, IsNextAct, IsRunning, IsUnbegun, PassesStay, Sight, StaysAt, TableChange, TookTurn, adds_entry, process_in, wait_for_holder, wait_of};
 ghost use Rattle.bd_tables.specs.Seen.{ShowsAfter};
 ghost use Rattle.bd_turns.specs.Processors.{row_of_entry};
 ghost use Rattle.bd_turns.specs.State.{State};
@@ -21,7 +21,7 @@ use bd_base::{
     Vba,
 };
 use bd_entry::{Act, Entry};
-use bd_kernel::{KernelCall, does_write, piece_of, size_of};
+use bd_kernel::{Blocker, KernelCall, does_write, piece_of, size_of};
 use bd_medium::Medium;
 use bd_pieces::Piece;
 use bd_queue_pair::Command;
@@ -42,37 +42,69 @@ impl<T: KernelSide, M: Medium> Parts<T, M> {
         if usize::from(self.processes[p.get() as usize].ended) == calls {
             return Ok(Turn::Idle);
         }
-        if let Some(wait) = self.wait_to_begin(script, p) {
+        if let Some(wait) = self.wait(script, p) {
             return Ok(Turn::Waits(wait));
         }
         self.begin(script, p)?;
         match self.next_act(p) {
-            Act::Busy(file, holder) => Ok(Turn::Waits(Wait::Busy(file, holder))),
-            Act::Submit(piece) => self.submit(script, p, piece),
-            Act::Poll => self.poll(p),
+            // A turn that waits was answered above.
+            Act::Busy(_, _) => unreachable!(),
             // No call that is built takes rights away.
             Act::Revoke(_) => unreachable!(),
+            Act::Submit(piece) => self.submit(script, p, piece),
+            Act::Poll => self.poll(p),
             act => self.carry_out(script, p, act),
         }
     }
 
-    /// What the running call waits for where it is not begun, if anything. Only then is memory taken for it.
+    /// What the turn waits for, if it waits. No memory is taken and no action made for it.
+    fn wait(&self, script: &Script, p: Pid) -> Option<Wait>
+        ghost m: { State }
+        requires state { IsAt T.Tables script.now self.now m }
+        requires process { p < length script.now.processes }
+        requires running { IsRunning m p }
+        ensures { result ≡ wait_of m p }
+    {
+        if self.processes[p.get() as usize].call.is_some() {
+            self.wait_in_course(p)
+        } else {
+            self.wait_to_begin(script, p)
+        }
+    }
+
+    /// What the turn waits for where the running call is not begun.
     fn wait_to_begin(&self, script: &Script, p: Pid) -> Option<Wait>
         ghost m: { State }
         requires state { IsAt T.Tables script.now self.now m }
         requires process { p < length script.now.processes }
         requires running { IsRunning m p }
-        ensures { IfSome result (λ wait. outcome_of m p ≡ Waiting wait) }
+        requires unbegun { IsUnbegun self.now p }
+        ensures { result ≡ wait_of m p }
     {
-        if self.processes[p.get() as usize].call.is_some() {
-            return None;
-        }
         let call = call_at(script, self.at(p));
         let uid = script.processes.as_slice()[p.get() as usize].uid;
-        match KernelCall::first(self.disk.fs(), self.disk.descriptors(), call, p, uid) {
-            Some(act) => wait_for(&act),
-            None => None,
+        let (fs, descriptors) = (self.disk.fs(), self.disk.descriptors());
+        wait_for(KernelCall::first_blocker(fs, descriptors, call, p, uid)?)
+    }
+
+    /// What the turn waits for where the running call is begun.
+    fn wait_in_course(&self, p: Pid) -> Option<Wait>
+        ghost g: { Sight }
+        requires state { IsAt T.Tables g.script self.now g.state }
+        requires begun { HasBegun self.now p }
+        ensures { result ≡ wait_of g.state p }
+    {
+        let it = &self.processes[p.get() as usize];
+        let running = it.call.as_ref().unwrap();
+        let blocker = running.blocker(self.disk.fs(), self.disk.descriptors())?;
+        let wait = wait_for(blocker);
+        if wait.is_some() {
+            return wait;
         }
+        if it.queue.has_completed() {
+            return None;
+        }
+        Some(Wait::Completion(running.least_outstanding()))
     }
 
     /// The running call is begun, where it is not yet.
@@ -124,25 +156,8 @@ impl<T: KernelSide, M: Medium> Parts<T, M> {
         Ok(self.end_turn(p, processor(p), Row::Submit))
     }
 
-    /// The oldest completion is taken, where one has come.
-    fn poll(&mut self, p: Pid) -> Result<Turn, OutOfMemory>
-        ghost g: { Sight }
-        requires state { IsAt T.Tables g.script self.old g.state }
-        requires begun { HasBegun self.old p }
-        requires act { IsNextAct g.state p Poll }
-        ensures ok { IfOk result (λ turn. TookTurn T.Tables g.script self.old self.new g.state p turn) }
-        ensures err { OnErr result (StaysAt T.Tables g.script self.old self.new g.state) }
-    {
-        let it = &self.processes[p.get() as usize];
-        if !it.queue.has_completed() {
-            let running = it.call.as_ref().unwrap();
-            return Ok(Turn::Waits(Wait::Completion(running.least_outstanding())));
-        }
-        self.take_completion(p)
-    }
-
     /// The oldest completion, which has come, is taken.
-    fn take_completion(&mut self, p: Pid) -> Result<Turn, OutOfMemory>
+    fn poll(&mut self, p: Pid) -> Result<Turn, OutOfMemory>
         ghost g: { Sight }
         requires state { IsAt T.Tables g.script self.old g.state }
         requires begun { HasBegun self.old p }
@@ -262,13 +277,13 @@ impl<T: KernelSide, M: Medium> Parts<T, M> {
     }
 }
 
-/// The wait that an action is, if it is one for the holder of a file.
-fn wait_for(act: &Act) -> Option<Wait>
-    ensures { IfSome result (λ wait. IsWaitFor act.now wait) }
+/// The wait for the holder of a file, if this is what is waited for.
+fn wait_for(blocker: Blocker) -> Option<Wait>
+    ensures { result ≡ wait_for_holder blocker }
 {
-    match act {
-        Act::Busy(file, holder) => Some(Wait::Busy(*file, *holder)),
-        _ => None,
+    match blocker {
+        Blocker::Holder(file, holder) => Some(Wait::Busy(file, holder)),
+        Blocker::Completion => None,
     }
 }
 

@@ -1,7 +1,8 @@
 use Rattle.std.proofs.Common.{◌≡◌, ℕ, None, Some, sym, ap, ◌∙◌, subst}
-use Rattle.std.specs.Option.{option_and_then}
+use Rattle.std.specs.Option.{option_and_then, option_map}
 use Rattle.bd_entry.specs.Actions.{wait_for}
 use Rattle.bd_entry.specs.Refusals.{file_of}
+use Rattle.bd_kernel.specs.Blockers.{busy_by}
 use Rattle.bd_kernel.specs.Changes.{Rows}
 use Rattle.bd_kernel.specs.Holders.{holder_in}
 use Rattle.bd_kernel.specs.Sights.{AtPlace, place_of, store_of}
@@ -15,7 +16,7 @@ returns-in_err-file c = λ uids bytes work number before opens.
     subst (λ (rows : Rows). AtPlace c.args.fs.now rows c.args.call.now c.args.process c.args.running.now.opened (λ s p. c.file_of.result ≡ file_of s p))
     c.table.ensures c.file_of.ensures in
     let none : file_of s p ≡ None = sym (found uids bytes work number before opens) ∙ c.in_err-file.was in
-    c.from_residual.ensures
+    ap (option_map busy_by) c.from_residual.ensures
     ∙ sym (ap (option_and_then (λ file. wait_for c.args.process file (holder_in c.args.descriptors.now.held file))) none)
 
 pub returns : goal.returns

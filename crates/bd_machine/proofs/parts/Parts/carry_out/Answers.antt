@@ -13,18 +13,17 @@ use Rattle.bd_entry.specs.Effects.{after_change}
 use Rattle.bd_kernel.specs.Disks.{DiskState, IsDiskOf}
 use Rattle.bd_machine.specs.declared.parts.Parts.{Parts}
 use Rattle.bd_machine.specs.Logs.{LogState}
-use Rattle.bd_machine.specs.Turns.{AreBuilt, AreCellsFor, AreFew, EndsTurn, HasBegun, MayHold, StaysAt, TookTurn, is_built, with_hold}
+use Rattle.bd_machine.specs.Turns.{AreCellsFor, AreFew, EndsTurn, HasBegun, MayHold, StaysAt, TookTurn, is_built, with_hold}
 use Rattle.bd_machine.proofs.ProcessorAdded.{Carried, begun_held, few_held, held_parts, may_take, took_entry}
 use Rattle.bd_machine.proofs.ProcessorAdds.{adds_made, attaches, can_change_disk, can_follow, changed_is, has_its_piece, is_entry_of}
 use Rattle.bd_machine.proofs.ProcessorBegins.{begun_there, call_within, user_read}
 use Rattle.bd_machine.proofs.ProcessorEntries.{AddsHere}
-use Rattle.bd_machine.proofs.ProcessorKinds.{built_at}
+use Rattle.bd_machine.proofs.ProcessorKinds.{built_here}
 use Rattle.bd_machine.proofs.ProcessorReady.{Ready, call_begun, call_of_script, called_next, fd_kept, hold_kept, in_script, place, ready_for}
 use Rattle.bd_turns.specs.declared.turn.Row.{Row}
 use Rattle.bd_turns.specs.declared.turn.Turn.{Turn}
 use Rattle.bd_turns.specs.declared.turn.Turn.TheVariants.{Did}
 use Rattle.bd_turns.specs.Processors.{row_of_entry}
-use Rattle.bd_turns.proofs.RunningPlaces.{runs_at}
 use Rattle.bd_machine.proofs.parts.Parts.carry_out.Goals as goal
 
 pub call_at-call-requires : goal.call_at-call-requires
@@ -276,9 +275,7 @@ hold-requires-clause-free g c =
     let same : t ≡ record z { tables = t.tables } = c.change_tables.ensures.same in
     let holds : t.disk.held ≡ x.disk.held =
     ap (λ (w : Parts _ _ _). w.disk.held) same ∙ c.note.ensures.held ∙ c.in_ok-change.ensures.held in
-    let built : is_built p.call ≡ true =
-    built_at m.script p.at p.call (subst AreBuilt (sym c.requires.1.1.1.0.shows.script_is) c.requires.1.1.1.0.built)
-    (runs_at m process p r.here.runs).called in
+    let built : is_built p.call ≡ true = built_here script old m process p c.requires.1.1.1.0 r.here.runs in
     subst (λ (l : List (Option ℕ)). MayHold l process held) (sym holds) (may_take script x m process y mine act r e adds held built held_is)
 
 pub end_turn-requires-clause-begun : goal.end_turn-requires-clause-begun

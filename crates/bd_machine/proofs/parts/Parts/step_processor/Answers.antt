@@ -1,15 +1,16 @@
-use Rattle.std.proofs.Common.{◌≡◌, ◌≢◌, length, refl, sym, ap, subst, arith, get_or}
+use Rattle.std.proofs.Common.{◌≡◌, ◌≢◌, Some, length, refl, sym, ap, ◌∙◌, subst, arith, get_or}
 use Rattle.bd_base.specs.declared.script.Process.{Process as ScriptProcess}
 use Rattle.bd_base.specs.declared.script.Script.{Script}
 use Rattle.bd_entry.specs.declared.act.Act.TheVariants as acts
-use Rattle.bd_machine.specs.Turns.{AreBuilt, IsAt, IsNextAct}
+use Rattle.bd_machine.specs.Shows.{Shows}
+use Rattle.bd_machine.specs.Turns.{AreBuilt, IsAt, IsNextAct, wait_of}
 use Rattle.bd_machine.proofs.ProcessorBegins.{process_read, process_there}
 use Rattle.bd_machine.proofs.ProcessorFacts.{outcome_idle, took_idle, took_wait}
 use Rattle.bd_machine.proofs.ProcessorIdle.{none_runs, one_runs, process_of_script}
-use Rattle.bd_machine.proofs.ProcessorKinds.{built_at, revokes_nothing}
+use Rattle.bd_machine.proofs.ProcessorKinds.{built_here, revokes_nothing}
+use Rattle.bd_machine.proofs.ProcessorWaits.{has_come, is_not_held, not_some, waits_of}
 use Rattle.bd_turns.specs.Processors.{running_of}
 use Rattle.bd_turns.specs.State.{holder_of}
-use Rattle.bd_turns.proofs.RunningPlaces.{runs_at}
 use Rattle.bd_machine.proofs.parts.Parts.step_processor.Goals as goal
 
 pub returns-then-from-calls-clause-ok : goal.returns-then-from-calls-clause-ok
@@ -32,8 +33,8 @@ returns-then-from-calls-clause-ok g c =
     took_idle script x x m process is.shows
     (outcome_idle m process (omega (arith, count, c.requires.1.1.1.1)) (none_runs script x m process y it is there of all)) refl refl
 
-pub wait_to_begin-requires : goal.wait_to_begin-requires
-wait_to_begin-requires g c =
+pub wait-requires : goal.wait-requires
+wait-requires g c =
     let x = c.args.self.now in
     let script = c.args.script.now in
     let m = g.m in
@@ -73,13 +74,49 @@ begin-requires g c =
 pub returns-in-Some-clause-ok : goal.returns-in-Some-clause-ok
 returns-in-Some-clause-ok g c =
     let x = c.args.self.now in
-    took_wait c.args.script.now x x g.m c.args.p c.in-Some.wait c.requires.1.1.1.0.shows (rw c.in-Some.is at c.wait_to_begin.ensures) refl refl
+    let is : Some c.in-Some.wait ≡ wait_of g.m c.args.p = rw c.in-Some.is at c.wait.ensures in
+    took_wait c.args.script.now x x g.m c.args.p c.in-Some.wait c.requires.1.1.1.0.shows (waits_of g.m c.args.p c.in-Some.wait (sym is)) refl refl
 
 pub unreachable-requires : goal.unreachable-requires
 unreachable-requires g c =
+    is_not_held g.m c.args.p c.in-Busy.field-0 c.in-Busy.field-1 c.in-Busy.ensures (sym c.wait.ensures ∙ not_some c.wait.result c.in_default.not-Some)
+
+pub unreachable-requires-in-Revoke : goal.unreachable-requires-in-Revoke
+unreachable-requires-in-Revoke g c =
+    let m = g.m in
+    let next : IsNextAct m c.args.p (acts.Revoke c.in-Revoke.field-0) = c.in-Revoke.ensures in
+    let built = built_here c.args.script.now c.args.self.now m c.args.p next.place c.requires.1.1.1.0 next.running_is in
+    revokes_nothing m.store (holder_of m) (running_of m next.place) c.in-Revoke.field-0 built next.next
+
+pub poll-requires : goal.poll-requires
+poll-requires g c =
     let m = g.m in
     let is : IsAt g.T.Tables c.args.script.now c.args.self.now m = c.requires.1.1.1.0 in
-    let next : IsNextAct m c.args.p (acts.Revoke c.in-Revoke.field-0) = c.in-Revoke.ensures in
-    let built = built_at m.script next.place.at next.place.call (subst AreBuilt (sym is.shows.script_is) is.built)
-    (runs_at m c.args.p next.place next.running_is).called in
-    revokes_nothing m.store (holder_of m) (running_of m next.place) c.in-Revoke.field-0 built next.next
+    let stays = c.begin.ensures.stays in
+    let free = sym c.wait.ensures ∙ not_some c.wait.result c.in_default.not-Some in
+    let next : IsNextAct m c.args.p acts.Poll = c.in-Poll.ensures in
+    let now : IsAt g.T.Tables m.script c.begin.new.self m =
+    record {
+      shows = subst (λ (s : Script). Shows g.T.Tables s c.begin.new.self m) (sym is.shows.script_is) stays.shows;
+      reached = is.reached;
+      built = subst AreBuilt (sym is.shows.script_is) is.built;
+    } in
+    λ κs out. (
+      out.0,
+      (
+        out.1.0,
+        (
+          out.1.1,
+          (
+            now,
+            (
+              c.in_ok-begin.ensures.begun,
+              (
+                next,
+                has_come c.args.script.now c.begin.new.self m c.args.p stays.shows next free,
+              ),
+            ),
+          ),
+        ),
+      ),
+    )

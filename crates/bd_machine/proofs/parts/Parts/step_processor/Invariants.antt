@@ -15,5 +15,5 @@ ghost-poll g a = record { script = g.m.script; state = g.m }
 abbrev pub ghost-carry_out : goal.ghost-carry_out
 ghost-carry_out g a = g.m
 
-abbrev pub ghost-wait_to_begin : goal.ghost-wait_to_begin
-ghost-wait_to_begin g a = g.m
+abbrev pub ghost-wait : goal.ghost-wait
+ghost-wait g a = g.m
