@@ -19,7 +19,7 @@ use Rattle.bd_kernel.specs.Turns as kernel
 use Rattle.bd_machine.specs.declared.parts.Parts.{Parts}
 use Rattle.bd_machine.specs.declared.process.Process.{Process}
 use Rattle.bd_machine.specs.Shows.{IsCallKept, Shows}
-use Rattle.bd_machine.specs.Turns.{IsNextAct, process_in}
+use Rattle.bd_machine.specs.Turns.{IsNextAct, IsNextBlocker, process_in}
 use Rattle.bd_machine.proofs.ProcessorCommands.{RunsHere, kept}
 use Rattle.bd_machine.proofs.ProcessorHolds.{holder_shown}
 use Rattle.bd_turns.specs.Processors.{running_of}
@@ -66,7 +66,7 @@ next_shown script x m p y c fs table answer here files rows is =
     of_next_shown script x m p y c fs table (λ act. answer ≡ act) here files rows is
 
 -- and so is what it waits for
-pub blocker_shown : {T M P : Type 0} {K : sides.Ghosts T P} (script : Script) (x : Parts T M P) (m : State) (p : Place) (y : Process P)
+blocker_shown : {T M P : Type 0} {K : sides.Ghosts T P} (script : Script) (x : Parts T M P) (m : State) (p : Place) (y : Process P)
     (c : kernel.Progress) (fs : Files) (table : Table) (answer : Option Blocker) → RunsHere K script x m p y c → fs ≡ files_on x.disk →
     table ≡ table_on x.disk → kernel.IsBlocker fs table c answer → answer ≡ blocker_in (next_act m.store (holder_of m) (running_of m p))
 blocker_shown script x m p y c fs table answer here files rows is =
@@ -118,6 +118,20 @@ here_for {K = K} script x m process y c shows there begun = by (running m proces
           before = p.before;
           here = record { shows = shows; runs = is ∙ ap Some (place_is m process p is); there = there; call_is = begun };
         }
+
+-- what it waits for
+pub blocker_kept : {T M P : Type 0} {K : sides.Ghosts T P} (script : Script) (x : Parts T M P) (m : State) (process : ℕ) (y : Process P)
+    (c : kernel.Progress) (fs : Files) (table : Table) (answer : Option Blocker) → Shows K script x m →
+    process_in x process ≡ Some y → y.call ≡ Some c → fs ≡ files_on x.disk → table ≡ table_on x.disk →
+    kernel.IsBlocker fs table c answer → IsNextBlocker m process answer
+blocker_kept script x m process y c fs table answer shows there begun files rows is =
+    let found = here_for script x m process y c shows there begun in
+    let p = place_for m process found.call found.before in
+    record {
+      place = p;
+      running_is = found.here.runs;
+      blocker_is = blocker_shown script x m p y c fs table answer found.here files rows is;
+    }
 
 -- the same where this is what it does next
 pub here_acting : {T M P : Type 0} {K : sides.Ghosts T P} (script : Script) (x : Parts T M P) (m : State) (process : ℕ) (y : Process P)

@@ -1,6 +1,6 @@
 -- What a process waits for.
 use Rattle.std.proofs.Common.{◌≡◌, ◌≢◌, ℕ, zero, suc, ◌<◌, ◌≤◌, Bool, true, false, cond, List, [], ◌∷◌, length, map, Option, None, Some, refl, sym, ap, ◌∙◌, subst, arith}
-use Rattle.std.specs.Prelude.{min, slice_index_or, is_some, All, Contains}
+use Rattle.std.specs.Prelude.{min, slice_index_or, All, Contains}
 use Rattle.std.specs.Option.{option_and_then, option_map, option_map_or}
 use Rattle.std.proofs.lemmas.Bool.{false≢true}
 use Rattle.std.proofs.lemmas.List.Elements.{All-head, All-tail}
@@ -25,11 +25,11 @@ use Rattle.bd_kernel.specs.Turns as kernel
 use Rattle.bd_machine.specs.declared.parts.Parts.{Parts}
 use Rattle.bd_machine.specs.declared.process.Process.{Process}
 use Rattle.bd_machine.specs.Shows.{IsCallAt, IsNotBegun, Shows, completed_of}
-use Rattle.bd_machine.specs.Turns.{HasCompletion, IsNextAct, is_built, process_in, wait_for_holder, wait_in, wait_of}
-use Rattle.bd_machine.proofs.ProcessorCommands.{RunsHere, outstanding_kept}
+use Rattle.bd_machine.specs.Turns.{HasCompletion, IsAt, IsNextAct, IsNextBlocker, process_in, wait_in, wait_of}
+use Rattle.bd_machine.proofs.ProcessorCommands.{outstanding_kept}
 use Rattle.bd_machine.proofs.ProcessorFacts.{outcome_at}
 use Rattle.bd_machine.proofs.ProcessorHolds.{holder_shown}
-use Rattle.bd_machine.proofs.ProcessorKinds.{revokes_nothing}
+use Rattle.bd_machine.proofs.ProcessorKinds.{built_here, polls_some, revokes_nothing}
 use Rattle.bd_machine.proofs.ProcessorNext.{store_shown}
 use Rattle.bd_queue_pair.specs.declared.command.Done.{Done}
 use Rattle.bd_turns.specs.declared.turn.Wait.{Wait}
@@ -73,11 +73,6 @@ polling_waits (Some (acts.Busy f h)) is =
 polling_waits (Some acts.Poll) is = refl
 polling_waits (Some act) is = absurd (none-some blockers.Completion is)
 
--- what is waited for and is no holder is a completion
-pub completion_left : (blocker : Blocker) → is_some (wait_for_holder blocker) ≡ false → blocker ≡ blockers.Completion
-completion_left (blockers.Holder file holder) none = absurd (false≢true (sym none))
-completion_left blockers.Completion none = refl
-
 -- ---- what an act waits for
 
 -- what a turn with this act waits for
@@ -118,39 +113,39 @@ polling m p come is =
 
 -- ---- what a process waits for
 
-module _ (m : State) (process : ℕ) (p : Place) (runs : running m process ≡ Some p) where
-  abbrev act : Option Act
-  act = next_act m.store (holder_of m) (running_of m p)
+-- that which the next act of its running call waits for
+wait_at : (m : State) (process : ℕ) (p : Place) → running m process ≡ Some p →
+    wait_of m process ≡ wait_with m p (next_act m.store (holder_of m) (running_of m p))
+wait_at m process p runs = ap wait_in (outcome_at m process p runs)
 
-  -- that which the next act of its running call waits for
-  wait_at : wait_of m process ≡ wait_with m p act
-  wait_at = ap wait_in (outcome_at m process p runs)
+-- the holder of a file, where that is its blocker
+pub wait_held : (m : State) (process file holder : ℕ) → IsNextBlocker m process (Some (blockers.Holder file holder)) →
+    Some (waits.Busy file holder) ≡ wait_of m process
+wait_held m process file holder next =
+    let p = next.place in
+    let act = next_act m.store (holder_of m) (running_of m p) in
+    sym (wait_at m process p next.running_is ∙ ap (λ (o : Option Act). wait_with m p o) (busy_waits file holder act (sym next.blocker_is)))
 
-  -- the holder of a file, where that is its blocker
-  pub wait_held : (blocker : Blocker) → blocker_in act ≡ Some blocker → is_some (wait_for_holder blocker) ≡ true →
-      wait_for_holder blocker ≡ wait_of m process
-  wait_held (blockers.Holder file holder) is held =
-      sym (wait_at ∙ ap (λ (o : Option Act). wait_with m p o) (busy_waits file holder act is))
-  wait_held blockers.Completion is held = absurd (false≢true held)
+-- a completion, where that is its blocker and none has come
+wait_polled : (m : State) (process : ℕ) (come : List Completed) → (progress_of m process).completed ≡ come →
+    (next : IsNextBlocker m process (Some blockers.Completion)) →
+    wait_of m process ≡ cond (is_none_of come) (Some (completion_awaited m next.place)) None
+wait_polled m process come has next =
+    let p = next.place in
+    let act = next_act m.store (holder_of m) (running_of m p) in
+    wait_at m process p next.running_is ∙ ap (λ (o : Option Act). wait_with m p o) (polling_waits act (sym next.blocker_is))
+    ∙ polling m p come (ap (λ (n : ℕ). (progress_of m n).completed) (running_process m process p next.running_is) ∙ has)
 
-  -- a completion, where that is its blocker and none has come
-  pub wait_polled : (come : List Completed) → (progress_of m process).completed ≡ come → blocker_in act ≡ Some blockers.Completion →
-      wait_of m process ≡ cond (is_none_of come) (Some (completion_awaited m p)) None
-  wait_polled come has is =
-      wait_at ∙ ap (λ (o : Option Act). wait_with m p o) (polling_waits act is)
-      ∙ polling m p come (ap (λ (n : ℕ). (progress_of m n).completed) (running_process m process p runs) ∙ has)
-
-  -- nothing, where it has no blocker, of a call that is built
-  pub wait_free : is_built p.call ≡ true → blocker_in act ≡ None → wait_of m process ≡ None
-  wait_free built free =
-      wait_at ∙ unblocked m p act free (λ keys is. revokes_nothing m.store (holder_of m) (running_of m p) keys built is)
-
-  -- the holder, if any, where its blocker, if any, is no completion
-  pub wait_first : is_built p.call ≡ true → (o : Option Blocker) → o ≡ blocker_in act → o ≢ Some blockers.Completion →
-      option_and_then wait_for_holder o ≡ wait_of m process
-  wait_first built None is held = sym (wait_free built (sym is))
-  wait_first built (Some (blockers.Holder file holder)) is held = wait_held (blockers.Holder file holder) (sym is) refl
-  wait_first built (Some blockers.Completion) is held = absurd (held refl)
+-- nothing, where it has no blocker
+pub wait_free : {T M P : Type 0} {K : sides.Ghosts T P} (script : Script) (x : Parts T M P) (m : State) (process : ℕ) → IsAt K script x m →
+    IsNextBlocker m process None → None ≡ wait_of m process
+wait_free script x m process is next =
+    let p = next.place in
+    let built = built_here script x m process p is next.running_is in
+    sym
+    (wait_at m process p next.running_is
+    ∙ unblocked m p (next_act m.store (holder_of m) (running_of m p)) (sym next.blocker_is)
+    (λ keys revokes. revokes_nothing m.store (holder_of m) (running_of m p) keys built revokes))
 
 -- the outcome of a turn that waits
 pub waits_of : (m : State) (process : ℕ) (wait : Wait) → wait_of m process ≡ Some wait → outcome_of m process ≡ Waiting wait
@@ -200,49 +195,65 @@ least_is (x ∷ xs) least among low =
 
 -- ---- what the parts tell of it
 
-module _ {T M P : Type 0} {K : sides.Ghosts T P} (script : Script) (x : Parts T M P) (m : State) (process : ℕ) (shows : Shows K script x m) where
+module _ {T M P : Type 0} {K : sides.Ghosts T P} (script : Script) (x : Parts T M P) (m : State) (process : ℕ) where
   -- the completions that have come
-  come_kept : (y : Process P) → process_in x process ≡ Some y → (progress_of m process).completed ≡ map completed_of y.queue.completed
-  come_kept y there = ap (λ (g : Progress). g.completed) (shows.each process y there).progress
+  come_kept : (y : Process P) → Shows K script x m → process_in x process ≡ Some y →
+      (progress_of m process).completed ≡ map completed_of y.queue.completed
+  come_kept y shows there = ap (λ (g : Progress). g.completed) (shows.each process y there).progress
 
   -- a process that polls and does not wait has one
-  pub has_come : IsNextAct m process acts.Poll → wait_of m process ≡ None → HasCompletion x process
-  has_come next free y there none =
+  pub has_come : Shows K script x m → IsNextAct m process acts.Poll → wait_of m process ≡ None → HasCompletion x process
+  has_come shows next free y there none =
+      let blocked : IsNextBlocker m process (Some blockers.Completion) =
+      record { place = next.place; running_is = next.running_is; blocker_is = sym (ap blocker_in next.next) } in
       none-some (completion_awaited m next.place)
-      (sym free
-      ∙ wait_polled m process next.place next.running_is []
-      (come_kept y there ∙ ap (λ (l : List Done). map completed_of l) none) (ap blocker_in next.next))
+      (sym free ∙ wait_polled m process [] (come_kept y shows there ∙ ap (λ (l : List Done). map completed_of l) none) blocked)
 
-  module _ (p : Place) (y : Process P) (c : kernel.Progress) (here : RunsHere K script x m p y c) (number : p.at.process ≡ process)
-      (blocked : blocker_in (next_act m.store (holder_of m) (running_of m p)) ≡ Some blockers.Completion) where
-    there : process_in x process ≡ Some y
-    there = ap (process_in x) (sym number) ∙ here.there
-
-    runs : running m process ≡ Some p
-    runs = ap (running m) (sym number) ∙ here.runs
-
-    -- where none has come, it waits for that of the least piece
-    pub wait_for_least : (least : ℕ) → y.queue.completed ≡ [] → Contains c.outstanding least → All (λ piece. least ≤ piece) c.outstanding →
-        Some (waits.Completion least) ≡ wait_of m process
-    wait_for_least least none among low =
-        let mine : c.outstanding ≡ outstanding (progress_of m p.at.process) = outstanding_kept script x m p y c here in
-        let is : least ≡ least_outstanding (outstanding (progress_of m p.at.process)) =
-        least_is c.outstanding least among low ∙ ap (λ (l : List ℕ). least_outstanding l) mine in
-        ap (λ (n : ℕ). Some (waits.Completion n)) is
-        ∙ sym
-        (wait_polled m process p runs [] (come_kept y there ∙ ap (λ (l : List Done). map completed_of l) none) blocked)
-
-    -- where one has, it does not wait
-    pub wait_over : y.queue.completed ≢ [] → wait_of m process ≡ None
+  module _ (y : Process P) (is : IsAt K script x m) (there : process_in x process ≡ Some y)
+      (blocked : IsNextBlocker m process (Some blockers.Completion)) where
+    -- where one has come, it does not wait
+    pub wait_over : y.queue.completed ≢ [] → None ≡ wait_of m process
     wait_over some = by y.queue.completed refl
       where
-        by : (come : List Done) → y.queue.completed ≡ come → wait_of m process ≡ None
+        by : (come : List Done) → y.queue.completed ≡ come → None ≡ wait_of m process
         by [] none = absurd (some none)
-        by (first ∷ rest) is =
-            wait_polled m process p runs (completed_of first ∷ map completed_of rest)
-            (come_kept y there ∙ ap (λ (l : List Done). map completed_of l) is) blocked
+        by (first ∷ rest) is-come =
+            sym
+            (wait_polled m process (completed_of first ∷ map completed_of rest)
+            (come_kept y is.shows there ∙ ap (λ (l : List Done). map completed_of l) is-come) blocked)
 
--- ---- a call that was not begun
+    module _ (c : kernel.Progress) (begun : y.call ≡ Some c) where
+      number : blocked.place.at.process ≡ process
+      number = running_process m process blocked.place blocked.running_is
+
+      kept_outstanding : c.outstanding ≡ outstanding (progress_of m blocked.place.at.process)
+      kept_outstanding =
+          outstanding_kept script x m blocked.place y c
+          (record {
+            shows = is.shows;
+            runs = ap (running m) number ∙ blocked.running_is;
+            there = ap (process_in x) number ∙ there;
+            call_is = begun;
+          })
+
+      -- a command is outstanding
+      pub awaits_some : 0 < length c.outstanding
+      awaits_some =
+          let p = blocked.place in
+          let some = polls_some m.store (holder_of m) (running_of m p) (built_here script x m process p is blocked.running_is)
+          (polling_waits (next_act m.store (holder_of m) (running_of m p)) (sym blocked.blocker_is)) in
+          let same : length c.outstanding ≡ length (running_of m p).outstanding = ap (λ (l : List ℕ). length l) kept_outstanding in
+          omega (arith, some, same)
+
+      -- where none has come, it waits for that of the least piece
+      pub wait_for_least : (least : ℕ) → y.queue.completed ≡ [] → Contains c.outstanding least → All (λ piece. least ≤ piece) c.outstanding →
+          Some (waits.Completion least) ≡ wait_of m process
+      wait_for_least least none among low =
+          ap (λ (n : ℕ). Some (waits.Completion n))
+          (least_is c.outstanding least among low ∙ ap (λ (l : List ℕ). least_outstanding l) kept_outstanding)
+          ∙ sym (wait_polled m process [] (come_kept y is.shows there ∙ ap (λ (l : List Done). map completed_of l) none) blocked)
+
+-- ---- a call that is not begun
 
 module _ {T M P : Type 0} {K : sides.Ghosts T P} (script : Script) (x : Parts T M P) (m : State) (process : ℕ) (p : Place) (y : Process P)
     (shows : Shows K script x m)
@@ -271,9 +282,7 @@ module _ {T M P : Type 0} {K : sides.Ghosts T P} (script : Script) (x : Parts T 
       ∙ ap (λ (h : Holders). blocker_in (next_act m.store h fresh)) holders
       ∙ ap (λ (r : Running). blocker_in (next_act m.store (holder_of m) r)) run
 
-  -- so the turn waits for the holder, if it is one
-  pub wait_shown : is_built p.call ≡ true → (call : Call) (uid : ℕ) (fs : Files) (table : Table) (answer : Option Blocker) → call ≡ p.call →
-      user_of m.store process ≡ uid → fs ≡ files_on x.disk → table ≡ table_on x.disk → kernel.IsFirstBlocker fs table call process uid answer →
-      answer ≢ Some blockers.Completion → option_and_then wait_for_holder answer ≡ wait_of m process
-  wait_shown built call uid fs table answer called user files rows is held =
-      wait_first m process p runs built answer (first_shown call uid fs table answer called user files rows is) held
+  pub blocker_first : (call : Call) (uid : ℕ) (fs : Files) (table : Table) (answer : Option Blocker) → call ≡ p.call → user_of m.store process ≡ uid →
+      fs ≡ files_on x.disk → table ≡ table_on x.disk → kernel.IsFirstBlocker fs table call process uid answer → IsNextBlocker m process answer
+  blocker_first call uid fs table answer called user files rows is =
+      record { place = p; running_is = runs; blocker_is = first_shown call uid fs table answer called user files rows is }

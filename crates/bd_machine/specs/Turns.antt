@@ -20,7 +20,7 @@ use Rattle.bd_entry.specs.NextEntries.{IsLegalAt}
 use Rattle.bd_entry.specs.Refusals.{file_of}
 use Rattle.bd_entry.specs.Store.{Descriptor, Store, Valid, descriptor_at}
 use Rattle.bd_kernel.specs.declared.blocker.Blocker.{Blocker}
-use Rattle.bd_kernel.specs.declared.blocker.Blocker.TheVariants as blockers
+use Rattle.bd_kernel.specs.Blockers.{blocker_in}
 use Rattle.bd_kernel.specs.Changes.{slot_at}
 use Rattle.bd_kernel.specs.Disks.{DiskState, IsDiskOf}
 use Rattle.bd_kernel.specs.Holders.{holder_in}
@@ -36,7 +36,6 @@ use Rattle.bd_tables.specs.Seen.{EnginesStay}
 use Rattle.bd_turns.specs.declared.turn.Row.{Row}
 use Rattle.bd_turns.specs.declared.turn.Turn.{Turn}
 use Rattle.bd_turns.specs.declared.turn.Wait.{Wait}
-use Rattle.bd_turns.specs.declared.turn.Wait.TheVariants as waits
 use Rattle.bd_turns.specs.Course.{event_of}
 use Rattle.bd_turns.specs.Processors.{Adds, next_action, running_of}
 use Rattle.bd_turns.specs.State.{State, holder_of, running}
@@ -86,10 +85,11 @@ pub record IsNextAct (m : State) (process : ℕ) (act : Act) : Type 0 where
   pub running_is : running m process ≡ Some place
   pub next : next_act m.store (holder_of m) (running_of m place) ≡ Some act
 
--- the wait for the holder of a file, where that is what is waited for
-abbrev pub wait_for_holder : Blocker → Option Wait
-wait_for_holder (blockers.Holder file holder) = Some (waits.Busy file holder)
-wait_for_holder blockers.Completion = None
+-- this is what the running call of the process needs before it does anything else, if it does
+pub record IsNextBlocker (m : State) (process : ℕ) (blocker : Option Blocker) : Type 0 where
+  pub place : Place
+  pub running_is : running m process ≡ Some place
+  pub blocker_is : blocker ≡ blocker_in (next_act m.store (holder_of m) (running_of m place))
 
 -- what an outcome waits for, if it is a wait
 abbrev pub wait_in : Outcome → Option Wait

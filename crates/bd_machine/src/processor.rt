@@ -5,9 +5,10 @@ ghost use Rattle.bd_base.specs.Pieces.{Piece};
 ghost use Rattle.bd_base.specs.Scripts.{IsCall, IsWithinLimits};
 ghost use Rattle.bd_entry.specs.declared.act.Act.TheVariants.{Poll, Submit as Submits};
 ghost use Rattle.bd_entry.specs.Calls.{Place, call_at, fd_of, piece_of_call};
+ghost use Rattle.bd_kernel.specs.declared.blocker.Blocker.TheVariants.{Completion};
 ghost use Rattle.bd_machine.specs.declared.process.Process.{Process};
 ghost use Rattle.bd_machine.specs.Shows.{IsCommandOf};
-ghost use Rattle.bd_machine.specs.Turns.{AreCellsFor, AttachesByOpen, CanChangeTables, HasBegun, HasCompletion, IsAt, IsHeldAfter, IsNextAct, IsRunning, IsUnbegun, PassesStay, Sight, StaysAt, TableChange, TookTurn, adds_entry, process_in, wait_for_holder, wait_of};
+ghost use Rattle.bd_machine.specs.Turns.{AreCellsFor, AttachesByOpen, CanChangeTables, HasBegun, HasCompletion, IsAt, IsHeldAfter, IsNextAct, IsNextBlocker, IsRunning, IsUnbegun, PassesStay, Sight, StaysAt, TableChange, TookTurn, adds_entry, process_in, wait_of};
 ghost use Rattle.bd_tables.specs.Seen.{ShowsAfter};
 ghost use Rattle.bd_turns.specs.Processors.{row_of_entry};
 ghost use Rattle.bd_turns.specs.State.{State};
@@ -65,45 +66,56 @@ impl<T: KernelSide, M: Medium> Parts<T, M> {
         requires running { IsRunning m p }
         ensures { result ≡ wait_of m p }
     {
-        if self.processes[p.get() as usize].call.is_some() {
-            self.wait_in_course(p)
-        } else {
-            self.wait_to_begin(script, p)
+        let blocker = self.blocker(script, p)?;
+        match blocker {
+            Blocker::Holder(file, holder) => Some(Wait::Busy(file, holder)),
+            Blocker::Completion => self.wait_for_completion(p),
         }
     }
 
-    /// What the turn waits for where the running call is not begun.
-    fn wait_to_begin(&self, script: &Script, p: Pid) -> Option<Wait>
+    /// What the running call needs before it does anything else, if it needs anything.
+    fn blocker(&self, script: &Script, p: Pid) -> Option<Blocker>
+        ghost m: { State }
+        requires state { IsAt T.Tables script.now self.now m }
+        requires process { p < length script.now.processes }
+        requires running { IsRunning m p }
+        ensures blocker { IsNextBlocker m p result }
+        ensures begun { result ≡ Some Completion → HasBegun self.now p }
+    {
+        match self.processes[p.get() as usize].call.as_ref() {
+            Some(running) => running.blocker(self.disk.fs(), self.disk.descriptors()),
+            None => self.first_blocker(script, p),
+        }
+    }
+
+    /// The same of a call that is not begun: the holder of its file, or nothing.
+    fn first_blocker(&self, script: &Script, p: Pid) -> Option<Blocker>
         ghost m: { State }
         requires state { IsAt T.Tables script.now self.now m }
         requires process { p < length script.now.processes }
         requires running { IsRunning m p }
         requires unbegun { IsUnbegun self.now p }
-        ensures { result ≡ wait_of m p }
+        ensures blocker { IsNextBlocker m p result }
+        ensures holder { result ≢ Some Completion }
     {
         let call = call_at(script, self.at(p));
         let uid = script.processes.as_slice()[p.get() as usize].uid;
-        let (fs, descriptors) = (self.disk.fs(), self.disk.descriptors());
-        wait_for(KernelCall::first_blocker(fs, descriptors, call, p, uid)?)
+        KernelCall::first_blocker(self.disk.fs(), self.disk.descriptors(), call, p, uid)
     }
 
-    /// What the turn waits for where the running call is begun.
-    fn wait_in_course(&self, p: Pid) -> Option<Wait>
+    /// What a turn waits for that needs a completion: that of the least piece outstanding, unless one has come.
+    fn wait_for_completion(&self, p: Pid) -> Option<Wait>
         ghost g: { Sight }
         requires state { IsAt T.Tables g.script self.now g.state }
         requires begun { HasBegun self.now p }
+        requires blocker { IsNextBlocker g.state p (Some Completion) }
         ensures { result ≡ wait_of g.state p }
     {
         let it = &self.processes[p.get() as usize];
-        let running = it.call.as_ref().unwrap();
-        let blocker = running.blocker(self.disk.fs(), self.disk.descriptors())?;
-        let wait = wait_for(blocker);
-        if wait.is_some() {
-            return wait;
-        }
         if it.queue.has_completed() {
             return None;
         }
+        let running = it.call.as_ref().unwrap();
         Some(Wait::Completion(running.least_outstanding()))
     }
 
@@ -274,16 +286,6 @@ impl<T: KernelSide, M: Medium> Parts<T, M> {
             }
             _ => {}
         }
-    }
-}
-
-/// The wait for the holder of a file, if this is what is waited for.
-fn wait_for(blocker: Blocker) -> Option<Wait>
-    ensures { result ≡ wait_for_holder blocker }
-{
-    match blocker {
-        Blocker::Holder(file, holder) => Some(Wait::Busy(file, holder)),
-        Blocker::Completion => None,
     }
 }
 

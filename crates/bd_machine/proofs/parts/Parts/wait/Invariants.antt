@@ -1,7 +1,7 @@
 use Rattle.bd_machine.proofs.parts.Parts.wait.Given as goal
 
-abbrev pub ghost-wait_to_begin : goal.ghost-wait_to_begin
-ghost-wait_to_begin g a = g.m
+abbrev pub ghost-blocker : goal.ghost-blocker
+ghost-blocker g a = g.m
 
-abbrev pub ghost-wait_in_course : goal.ghost-wait_in_course
-ghost-wait_in_course g a = record { script = g.m.script; state = g.m }
+abbrev pub ghost-wait_for_completion : goal.ghost-wait_for_completion
+ghost-wait_for_completion g a = record { script = g.m.script; state = g.m }
