@@ -137,7 +137,7 @@ attach_refusal-at_first s (Map fd) at before can =
 attach_refusal-at_first s call at before can = absurd (false≢true can)
 
 -- where none passed before and one does now, it is the last
-last_passes : (test : Entry → Bool) (before : List Entry) (e : Entry) → list_any test before ≡ false → list_any test (before ++ e ∷ []) ≡ true →
+pub last_passes : (test : Entry → Bool) (before : List Entry) (e : Entry) → list_any test before ≡ false → list_any test (before ++ e ∷ []) ≡ true →
     test e ≡ true
 last_passes test before e none some =
     ⊎_elim

@@ -94,7 +94,7 @@ first_act s holders p (Some reason) act e is adds = (reason, refl, by (comes_bef
     by false is = later (busy_at_first s holders p) is (busy_at_first_adds_none s holders p act)
 
 -- a call that nothing keeps from beginning has no reason to be refused
-none_at_first : (s : Store) (holders : Holders) (p : Place) (o : Option Reason) → before_beginning s holders p o ≡ None → o ≡ None
+pub none_at_first : (s : Store) (holders : Holders) (p : Place) (o : Option Reason) → before_beginning s holders p o ≡ None → o ≡ None
 none_at_first s holders p None none = refl
 none_at_first s holders p (Some reason) none = absurd (by (comes_before_holder reason) none)
   where

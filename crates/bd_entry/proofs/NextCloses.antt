@@ -40,7 +40,7 @@ flat-none f test n (x ∷ xs) fails none =
     or_from (test x) (list_any test xs) (fails n x parts.0) (flat-none f test (n + 1) xs fails parts.1)
 
 -- where nothing that is made of all elements passes a test, nothing that is made of the one at an index does
-flat-at : {X A : Type 0} (f : ℕ × X → List A) (test : A → Bool) (n : ℕ) (xs : List X) (i : ℕ) (none : X) → f (n + i, none) ≡ [] →
+pub flat-at : {X A : Type 0} (f : ℕ × X → List A) (test : A → Bool) (n : ℕ) (xs : List X) (i : ℕ) (none : X) → f (n + i, none) ≡ [] →
     list_any test (flat_map f (enumerate_from n xs)) ≡ false → list_any test (f (n + i, slice_index_or xs i none)) ≡ false
 flat-at f test n [] i none empty fails = ap (list_any test) empty
 flat-at f test n (x ∷ xs) zero none empty fails =

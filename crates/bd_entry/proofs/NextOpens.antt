@@ -150,7 +150,7 @@ open_is_legal s at before name mode how act e opens own adds =
     keeps file fd of low rule = tt
 
 -- a direct open that has not opened has no entry
-unopened : (name : List ℕ) (mode : Mode) (at : At) (before : List Entry) →
+pub unopened : (name : List ℕ) (mode : Mode) (at : At) (before : List Entry) →
     AreOfCall (record { call = Enter name mode hows.Direct; at = at; before = [] }) before →
     list_any (is_end_of (Enter name mode hows.Direct)) before ≡ false → opened_fd before ≡ None → before ≡ []
 unopened name mode at [] of unfinished none = refl

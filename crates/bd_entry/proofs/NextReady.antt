@@ -44,11 +44,11 @@ use Rattle.bd_entry.proofs.WriteModes.{TheDescriptor-map, TheDescriptor-same, be
 -- ---- what stays of an open descriptor
 
 -- what is said of a descriptor rests on its mode, its way and its known size
-abbrev RestsOnUse : (Descriptor → Type 0) → Type 0
+abbrev pub RestsOnUse : (Descriptor → Type 0) → Type 0
 RestsOnUse P = (d new : Descriptor) → new.mode ≡ d.mode → new.how ≡ d.how → new.known ≡ d.known → P d → P new
 
 -- it holds after an entry that neither closes the descriptor nor ends a call of its process
-descriptor_stays : (P : Descriptor → Type 0) → RestsOnUse P → (s : Store) (call : Call) (e : Entry) → HasRightDescriptor s (place_in s call (at_of e)) e →
+pub descriptor_stays : (P : Descriptor → Type 0) → RestsOnUse P → (s : Store) (call : Call) (e : Entry) → HasRightDescriptor s (place_in s call (at_of e)) e →
     (process fd : ℕ) → (is_close e ≡ true → process ≢ (at_of e).process) →
     (is_ended_by call (work_of s (at_of e).process ++ e ∷ []) ≡ true → process ≢ (at_of e).process) →
     TheDescriptor (descriptor_at s process fd) P → TheDescriptor (descriptor_at (effect_of s (place_in s call (at_of e)) e) process fd) P
@@ -84,7 +84,7 @@ descriptor_stays P rests s call e fits process fd stays_open goes_on has =
 -- ---- entries that end their calls
 
 -- an entry that ends the call alone ends it after any others
-ended_by_end : (call : Call) (before : List Entry) (e : Entry) → is_end_of call e ≡ true → is_ended_by call (before ++ e ∷ []) ≡ true
+pub ended_by_end : (call : Call) (before : List Entry) (e : Entry) → is_end_of call e ≡ true → is_ended_by call (before ++ e ∷ []) ≡ true
 ended_by_end call before e ends =
     by call
     (list_any-append (is_end_of call) before (e ∷ [])
@@ -95,14 +95,14 @@ ended_by_end call before e ends =
     by (Write fd off bytes) any = or_left _ _ any
     by c any = any
 
-closes_end : (call : Call) (e : Entry) → is_made_by call e ≡ true → is_close e ≡ true → is_end_of call e ≡ true
+pub closes_end : (call : Call) (e : Entry) → is_made_by call e ≡ true → is_close e ≡ true → is_end_of call e ≡ true
 closes_end (Close fd) (Closed at by) made closes = refl
 closes_end (Enter name mode hows.Plain) (Closed at by) made closes = absurd (false≢true made)
 closes_end (Enter name mode hows.Direct) (Closed at by) made closes = absurd (false≢true made)
 closes_end call (Closed at by) made closes = absurd (false≢true made)
 closes_end call e made closes = absurd (false≢true closes)
 
-whole_ends : (call : Call) (e : Entry) → is_whole_refusal e ≡ true → is_end_of call e ≡ true
+pub whole_ends : (call : Call) (e : Entry) → is_whole_refusal e ≡ true → is_end_of call e ≡ true
 whole_ends call (Refused at None reason) whole = refl
 whole_ends call e whole = absurd (false≢true whole)
 

@@ -29,6 +29,7 @@ use Rattle.bd_entry.specs.Store.{Descriptor, Store, Valid, descriptor_at, file_i
 use Rattle.bd_entry.proofs.CallPieces.{piece_of_call-in_block}
 use Rattle.bd_entry.proofs.Descriptors.{changed_slot}
 use Rattle.bd_entry.proofs.DescriptorSteps.{access_opens, change-cases, sized_opens, slot-set_cases}
+use Rattle.bd_entry.proofs.EffectsOnFiles.{effect_of-files}
 use Rattle.bd_entry.proofs.Histories.{history-push, history_holds}
 use Rattle.bd_entry.proofs.HistoryLaws.{histories_keep_valid, is_call}
 use Rattle.bd_entry.proofs.KnownSizes.{none_open_at_start}
@@ -132,19 +133,6 @@ call_fits true s p of entries fit =
     (same_fit s (with_work s p []) refl fit)
 call_fits false s p of entries fit = same_fit s (with_work s p entries) refl fit
 
--- the files are those after the entry's own change
-of_call_files : (s : Store) (p : ℕ) (of : Option ℕ) (change : Descriptor → Descriptor) → (with_descriptor_of_call s p of change).files ≡ s.files
-of_call_files s p None change = refl
-of_call_files s p (Some f) change = refl
-
-telling_files : (tells : Bool) (s : Store) (p : ℕ) (of : Option ℕ) → (after_telling tells s p of).files ≡ s.files
-telling_files true s p of = of_call_files s p of (with_told_size s)
-telling_files false s p of = refl
-
-call_files : (ends : Bool) (s : Store) (p : ℕ) (of : Option ℕ) (entries : List Entry) → (after_call ends s p of entries).files ≡ s.files
-call_files true s p of entries = of_call_files (with_work s p []) p of with_known_size
-call_files false s p of entries = refl
-
 entry_fits : (v : Volume) (script : Script) (before : List Entry) (s : Store) (call : Call) (e : Entry) → IsNextOf v script before s call e →
     AllFit s → AllFit (effect_of s (place_in s call (at_of e)) e)
 entry_fits v script before s call e next fit =
@@ -152,15 +140,13 @@ entry_fits v script before s call e next fit =
     let entries = work_of s p ++ e ∷ [] in
     let of = fd_of_call call entries in
     let changed = after_change s e in
-    let told = after_telling (tells_size e) changed p of in
     let t = effect_of s (place_in s call (at_of e)) e in
     let valid : Valid t =
     histories_keep_valid v script (before ++ e ∷ []) t (history-push v script before s call e next) in
-    let same : t.files ≡ changed.files =
-    call_files (is_ended_by call entries) told p of entries ∙ telling_files (tells_size e) changed p of in
+    let same : t.files ≡ changed.files = (effect_of-files s (place_in s call (at_of e)) e).files in
     let files : FilesFit changed = λ file.
     subst (λ (files : List (Option Inode)). size_in (record changed { files = files }) file ≤ FILE_SIZE) same (files_fit t valid file) in
-    call_fits (is_ended_by call entries) told p of entries
+    call_fits (is_ended_by call entries) (after_telling (tells_size e) changed p of) p of entries
     (telling_fits (tells_size e) changed p of files (change_fits s e fit))
 
 -- the sizes of each descriptor are those that a file may have

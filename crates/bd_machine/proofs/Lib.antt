@@ -24,7 +24,6 @@ pub mod EngineCompletes
 pub mod ShowingHands
 pub mod ShowingKept
 pub mod ShowingEntries
-pub mod ShowingUsers
 pub mod ShowingCommands
 pub mod ShowingSteps
 pub mod ShowingAdding

@@ -26,7 +26,7 @@ use Rattle.bd_machine.specs.Turns.{HasBegun, NotesEntry, after_noting, process_i
 use Rattle.bd_machine.proofs.ShowingEntries.{command_more, hand_more, with_one_more}
 use Rattle.bd_machine.proofs.ShowingKept.{engine_kept, engine_of_same}
 use Rattle.bd_machine.proofs.ShowingSteps.{one_steps}
-use Rattle.bd_machine.proofs.ShowingUsers.{effect_of-uids}
+use Rattle.bd_turns.proofs.RefusalsStayAway.{effect_of-uids}
 use Rattle.bd_turns.proofs.RunningPlaces.{runs_at}
 use Rattle.bd_turns.specs.Sound.{has_told}
 use Rattle.bd_turns.specs.State.{InHand, Phase, Progress, State, place_of, progress_of, running}

@@ -4,7 +4,7 @@ use Rattle.std.specs.Prelude.{slice_get, slice_range, All, IfSome}
 use Rattle.std.specs.Option.{option_map, option_map_or}
 use Rattle.std.specs.List.{range_with_len}
 use Rattle.std.specs.FinMap as fin
-use Rattle.std.proofs.lemmas.Bool.{both_ways, not-true}
+use Rattle.std.proofs.lemmas.Bool.{not-true}
 use Rattle.std.proofs.lemmas.List.{ext_get_or, length-drop, length-take}
 use Rattle.std.proofs.lemmas.List.Elements.{All-cons, All-nil}
 use Rattle.std.proofs.lemmas.Option.{same_Some}
@@ -29,7 +29,6 @@ use Rattle.bd_machine.specs.Turns.{CanChangeTables, TableChange}
 use Rattle.bd_machine.proofs.CellsOfParts.{cells_of_part-same}
 use Rattle.bd_machine.proofs.TableChanges.{Changes, SeesTablesOf, changes, kernel_sees}
 use Rattle.bd_machine.proofs.TableChangesOfPairs.{not_full}
-use Rattle.bd_tables.specs.declared.state.Right.{Right}
 use Rattle.bd_tables.specs.Effects as effects
 use Rattle.bd_tables.specs.Kernel.{AgreesWith, HasLimit, IsFullFor, KernelState}
 use Rattle.bd_tables.specs.Plain.{cells_of, its_cells}
@@ -40,8 +39,9 @@ use Rattle.bd_turns.specs.Turns.{attached_tables, cell_in, cells_from, cells_of_
 use Rattle.bd_turns.proofs.CellsOfFiles.{limit_there}
 use Rattle.bd_turns.proofs.CellsOfGrowth.{padded-size, part_cells-look}
 use Rattle.bd_turns.proofs.CellsOfPairs.{AreCells, cells_of_used}
-use Rattle.bd_turns.proofs.RightsFit.{AllFit, Fits, key_at}
+use Rattle.bd_turns.proofs.RightsFit.{key_at}
 use Rattle.bd_turns.proofs.RightsKept.{attached_there}
+use Rattle.bd_turns.proofs.TablesOfEntries.{unattached}
 use Rattle.bd_tables.specs.declared.sides.Tables as sides
 
 -- ---- the cells of a part
@@ -118,17 +118,6 @@ agrees rights kernel s file part are = by (fin.get kernel.book pair) refl
 
 -- ---- the key
 
--- a key whose right is not attached in the store has none in the tables
-free_key : (rights : Rights) (s : Store) (process fd part : ℕ) (d : Descriptor) → AllFit rights s → descriptor_at s process fd ≡ Some d →
-    has_part part d.attached ≡ false → fin.get rights (key_at process fd part) ≡ None
-free_key rights s process fd part d all there free =
-    by (fin.get rights (key_at process fd part))
-    (subst (Fits (key_at process fd part) (fin.get rights (key_at process fd part))) there (all (key_at process fd part)))
-  where
-    by : (r : Option Right) → Fits (key_at process fd part) r (Some d) → r ≡ None
-    by None fits = refl
-    by (Some right) fits = absurd (both_ways (has_part part d.attached) free fits.attached)
-
 -- the lowest part that is not attached is not attached
 unattached_part : (s : Store) (d : Descriptor) (part : ℕ) → lowest_unattached s d ≡ Some part → has_part part d.attached ≡ false
 unattached_part s d part lowest =
@@ -177,7 +166,7 @@ attaching kernel x g at fd part cells seen can =
     record {
       d = d;
       open_is = ap (λ (rows : Rows). slot_at rows at.process fd) (sym can.disk.opens) ∙ after_there;
-      not_attached = free_key kernel.rights s at.process fd part old sees.fit there (unattached_part s old part rights.2.0);
+      not_attached = unattached kernel.rights s at.process fd part old sees.fit there (unattached_part s old part rights.2.0);
       room = subst (λ (cs : List Cell). length cs ≤ PART_BLOCKS) same_cells (part-count s old.file part);
       limits = subst (All HasLimit) same_cells (part-limits s old.file part file.0 file.1 enough);
       agree =

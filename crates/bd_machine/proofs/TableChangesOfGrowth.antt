@@ -1,7 +1,7 @@
 -- A growth asks of the tables what holds there: the entry of a new block is empty, and that of the last block reaches less far.
-use Rattle.std.proofs.Common.{◌≡◌, ℕ, ◌-◌, ◌*◌, ◌/◌, ◌%◌, ◌<◌, ◌≤◌, List, [], ◌∷◌, ◌++◌, length, Option, None, Some, is_some, sym, ap, ◌∙◌, subst, arith}
+use Rattle.std.proofs.Common.{◌≡◌, ℕ, ◌-◌, ◌*◌, ◌/◌, ◌%◌, ◌<◌, ◌≤◌, List, [], ◌∷◌, ◌++◌, length, Option, None, Some, sym, ap, ◌∙◌, subst, arith}
 use Rattle.std.specs.Prelude.{slice_get, slice_index_or, IfSome}
-use Rattle.std.specs.Option.{option_map, option_map_or, option_to_list}
+use Rattle.std.specs.Option.{option_map, option_to_list}
 use Rattle.std.specs.FinMap as fin
 use Rattle.std.proofs.lemmas.List.{length-append}
 use Rattle.std.proofs.lemmas.Option.{slice_get_past, slice_get_within}
@@ -10,16 +10,13 @@ use Rattle.bd_base.specs.declared.key.Cell.{Cell}
 use Rattle.bd_base.specs.declared.limits.TheConstants.{BLOCK_SIZE, FILE_SIZE, PART_BLOCKS}
 use Rattle.bd_base.specs.declared.volume.Inode.{Inode}
 use Rattle.bd_base.specs.Files.{limit_of}
-use Rattle.bd_base.specs.Inodes.{blocks_of_slot, grown_file, inode_at}
-use Rattle.bd_base.proofs.FileLists.{inode_at-set_same, inode_at-within}
+use Rattle.bd_base.specs.Inodes.{blocks_of_slot, grown_file}
 use Rattle.bd_entry.specs.declared.entry.Entry.{Entry}
 use Rattle.bd_entry.specs.declared.entry.Entry.TheVariants.{Extended}
 use Rattle.bd_entry.specs.Calls.{Place}
-use Rattle.bd_entry.specs.Effects.{effect_of}
 use Rattle.bd_entry.specs.Refusals.{goal_of}
 use Rattle.bd_entry.specs.Rules.{NotRefused, RightBlock, WithinLimit}
 use Rattle.bd_entry.specs.Store.{Store, blocks_in, file_in, limit_in}
-use Rattle.bd_entry.proofs.EffectsOnFiles.{effect_of-files}
 use Rattle.bd_entry.proofs.SoundVolumes.{GrowsTo, grows_to}
 use Rattle.bd_machine.specs.declared.parts.Parts.{Parts}
 use Rattle.bd_machine.specs.Turns.{CanChangeTables, TableChange}
@@ -35,22 +32,8 @@ use Rattle.bd_turns.specs.Turns.{cell_in, tables_after}
 use Rattle.bd_turns.proofs.CellsOfFiles.{Grown, Grows, by_block, grows, in_block, limit_there}
 use Rattle.bd_turns.proofs.CellsOfGrowth.{cell_if, cell_of_block-is, entry_of_block}
 use Rattle.bd_turns.proofs.CellsOfPairs.{AreCells}
+use Rattle.bd_turns.proofs.TablesOfGrowth.{grown_slot, limit_by}
 use Rattle.bd_tables.specs.declared.sides.Tables as sides
-
--- the file of an entry that grows it
-grown_slot : (s : Store) (q : Place) (at : At) (file to : ℕ) (block : Option ℕ) (f : Inode) → file_in s file ≡ Some f →
-    file_in (effect_of s q (Extended at file to block)) file ≡ Some (grown_file f block to)
-grown_slot s q at file to block f there =
-    let e = Extended at file to block in
-    let inside = inode_at-within s.files file (ap is_some there) in
-    ap (λ (files : List (Option Inode)). inode_at files file) (effect_of-files s q e).files
-    ∙ inode_at-set_same s.files file (option_map (λ f. grown_file f block to) (file_in s file)) inside
-    ∙ ap (option_map (λ f. grown_file f block to)) there
-
--- how far a file of these blocks goes in a block
-limit_by : (s : Store) (file index : ℕ) (f : Inode) → file_in s file ≡ Some f → limit_in s file index ≡ limit_of f.size f.blocks index
-limit_by s file index f there =
-    ap (λ (slot : Option Inode). limit_of (option_map_or (λ (f : Inode). f.size) slot 0) (blocks_of_slot slot) index) there
 
 -- the last block of a file that grew is there
 last_there : (f : Inode) (to : ℕ) (block : Option ℕ) → Grown f to block → (to - 1) / BLOCK_SIZE < length (f.blocks ++ option_to_list block)

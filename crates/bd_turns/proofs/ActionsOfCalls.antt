@@ -20,7 +20,7 @@ use Rattle.bd_entry.specs.Promises.{is_whole_refusal}
 use Rattle.bd_entry.specs.Refusals.{file_of, first_refusal}
 use Rattle.bd_entry.specs.Store.{Store}
 use Rattle.bd_entry.proofs.Holders.{is_some-position}
-use Rattle.bd_entry.proofs.NextActs.{map_from, or_from_either, then_from}
+use Rattle.bd_entry.proofs.NextActs.{map_from, none_at_first, or_from_either, then_from}
 use Rattle.bd_turns.specs.declared.turn.Row.{Row}
 use Rattle.bd_turns.specs.declared.turn.Wait.{Wait}
 use Rattle.bd_turns.specs.Processors as processors
@@ -112,15 +112,7 @@ pub record IsPassed (m : State) (p : Place) : Type 0 where
 pub beginning_none : (s : Store) (holders : Holders) (p : Place) (o : Option Reason) → before_beginning s holders p o ≡ None →
     (o ≡ None) × (busy_at_first s holders p ≡ None)
 beginning_none s holders p None none = (refl, none)
-beginning_none s holders p (Some reason) none = absurd (by (comes_before_holder reason) none)
-  where
-    later : (o : Option Act) → option_or o (Some (acts.Refuse None reason)) ≡ None → ⊥
-    later None none = none-some (acts.Refuse None reason) (sym none)
-    later (Some other) none = none-some other (sym none)
-
-    by : (b : Bool) → cond b (Some (acts.Refuse None reason)) (option_or (busy_at_first s holders p) (Some (acts.Refuse None reason))) ≡ None → ⊥
-    by true none = none-some (acts.Refuse None reason) (sym none)
-    by false none = later (busy_at_first s holders p) none
+beginning_none s holders p (Some reason) none = absurd (none-some reason (sym (none_at_first s holders p (Some reason) none)))
 
 -- a call that has not begun is not refused, and nobody else holds its file
 pub unbegun_passed : (m : State) (p : Place) → IsPassed m p → has_begun (running_of m p) ≡ false →

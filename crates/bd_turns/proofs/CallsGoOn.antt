@@ -7,7 +7,6 @@ use Rattle.std.proofs.lemmas.Option.{none-some}
 use Rattle.bd_base.specs.declared.script.Call.{Call}
 use Rattle.bd_base.specs.declared.script.Call.TheVariants.{Enter, Create, Read, Write, Truncate, Unlink, Size, Map, Close, RawRead, RawWrite}
 use Rattle.bd_base.specs.declared.script.How.TheVariants as hows
-use Rattle.bd_base.specs.declared.script.Mode.{Mode}
 use Rattle.bd_base.specs.declared.journal.At.{At}
 use Rattle.bd_entry.specs.declared.act.Act.{Act}
 use Rattle.bd_entry.specs.declared.entry.Entry.{Entry}
@@ -19,6 +18,7 @@ use Rattle.bd_entry.specs.NextEntries.{IsReadyPlace, running}
 use Rattle.bd_entry.specs.Refusals.{first_refusal, map_refusal}
 use Rattle.bd_entry.specs.Store.{Store, descriptor_at}
 use Rattle.bd_entry.proofs.NextActs.{open_descriptor}
+use Rattle.bd_entry.proofs.NextOpens.{unopened}
 use Rattle.bd_turns.specs.Sound.{keeps_allowed}
 use Rattle.bd_turns.proofs.BusyEngines.{There}
 use Rattle.bd_turns.proofs.NextActsThere.{HasOwn, IsDone, next_from_own}
@@ -103,17 +103,6 @@ pub size_ends : (fd : ℕ) (e : Entry) → is_made_by (Size fd) e ≡ true → i
 size_ends fd (entries.SizeRead at f size) made = refl
 size_ends fd (entries.Refused at None reason) made = refl
 size_ends fd e made = absurd (false≢true made)
-
--- a direct open that has not opened has no entry
-unopened : (name : List ℕ) (mode : Mode) (at : At) (before : List Entry) →
-    AreOfCall (record { call = Enter name mode hows.Direct; at = at; before = [] }) before →
-    list_any (is_end_of (Enter name mode hows.Direct)) before ≡ false → opened_fd before ≡ None → before ≡ []
-unopened name mode at [] of unfinished none = refl
-unopened name mode at (entries.Opened by file fd m h ∷ before) of unfinished none = absurd (none-some fd (sym none))
-unopened name mode at (entries.Attached by fd part ∷ before) of unfinished none = absurd (none-some fd of.0.fields)
-unopened name mode at (entries.Mapped by fd count ∷ before) of unfinished none = absurd (none-some fd of.0.fields)
-unopened name mode at (entries.Refused by None reason ∷ before) of unfinished none = absurd (false≢true (sym unfinished))
-unopened name mode at (e ∷ before) of unfinished none = absurd (false≢true of.0.kind)
 
 -- what is known of a call that goes on without commands, and whose file nobody else holds
 pub record MayGoOn (s : Store) (holders : Holders) (call : Call) (at : At) (before : List Entry) (outstanding : List ℕ) : Type 0 where

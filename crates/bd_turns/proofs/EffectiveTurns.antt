@@ -28,7 +28,7 @@ use Rattle.bd_turns.specs.Reached.{IsReached}
 use Rattle.bd_turns.specs.Sound.{keeps_allowed}
 use Rattle.bd_turns.specs.State.{Progress, State, has_ended, outstanding, progress_of, running, with_progress}
 use Rattle.bd_turns.specs.Turns.{after_adding, after_effect, after_ending, after_polling, after_posting, after_step, after_submitting, holds_after, holds_throughout, tables_after, with_entry, with_entry_if_any, with_hold}
-use Rattle.bd_turns.proofs.StayingDescriptors.{ended_by_end, whole_ends}
+use Rattle.bd_entry.proofs.NextReady.{ended_by_end, whole_ends}
 use Rattle.bd_turns.proofs.ActionsOfCalls.{Ahead, AloneOn, ahead, no_commands, passed-allowed, passed-alone, throughout-no_pieces}
 use Rattle.bd_turns.proofs.CallsAfterTurns.{Follows, Prepares, follows, runs_within}
 use Rattle.bd_turns.proofs.StepsLeave.{step_keeps}

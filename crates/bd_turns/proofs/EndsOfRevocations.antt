@@ -1,12 +1,11 @@
 -- No call ends while a right that it cleared is still attached.
-use Rattle.std.proofs.Common.{◌≡◌, ◌≢◌, ℕ, ◌<◌, Bool, true, false, not, ◌&&◌, cond, List, [], ◌∷◌, ◌++◌, Option, None, Some, refl, sym, ap, ◌∙◌, subst, arith, ⊎_elim}
+use Rattle.std.proofs.Common.{◌≡◌, ◌≢◌, ℕ, ◌<◌, true, false, not, ◌&&◌, cond, List, [], ◌∷◌, ◌++◌, Option, None, Some, refl, sym, ap, ◌∙◌, subst, arith, ⊎_elim}
 use Rattle.std.specs.Prelude.{nat_lt}
 use Rattle.std.specs.Option.{option_and_then, option_map_or, option_or, option_to_list}
 use Rattle.std.specs.List.{list_any}
 use Rattle.std.specs.FinMap as fin
-use Rattle.std.proofs.lemmas.Bool.{and_from, both_ways, cases_Bool, false≢true, false_from_ne_true, ltb-true, or_cases}
+use Rattle.std.proofs.lemmas.Bool.{and_from, both_ways, cases_Bool, false≢true, false_from_ne_true, ltb-true}
 use Rattle.std.proofs.lemmas.List.{append-nil}
-use Rattle.std.proofs.lemmas.List.Folds.{list_any-append}
 use Rattle.std.proofs.lemmas.Option.{none-some, same_Some}
 use Rattle.bd_base.specs.declared.journal.At.{At}
 use Rattle.bd_base.specs.declared.key.Key.{Key}
@@ -29,6 +28,7 @@ use Rattle.bd_entry.specs.RulesOfContents.{AsksForSize}
 use Rattle.bd_entry.specs.RulesOfRights.{HasNoRights, NoRightsWherePlain}
 use Rattle.bd_entry.specs.Store.{Descriptor, descriptor_at, file_in, has_part, has_rights_on, size_in}
 use Rattle.bd_entry.proofs.Accesses.{of_call-in_store}
+use Rattle.bd_entry.proofs.CallEntries.{last_passes}
 use Rattle.bd_entry.proofs.Descriptors.{rights-on}
 use Rattle.bd_entry.proofs.NextActs.{then_from}
 use Rattle.bd_entry.proofs.NextCloses.{keys_on-none}
@@ -46,15 +46,6 @@ use Rattle.bd_turns.proofs.EntriesOfCalls.{ClearsKey, added_place, cleared_by, c
 use Rattle.bd_turns.proofs.TruncationsAfterTurns as truncations
 
 -- ---- the entry that ends a call
-
--- where none passed before and one does now, it is the last
-last_passes : (test : Entry → Bool) (before : List Entry) (e : Entry) → list_any test before ≡ false → list_any test (before ++ e ∷ []) ≡ true →
-    test e ≡ true
-last_passes test before e none some =
-    ⊎_elim
-    (λ earlier. absurd (both_ways (list_any test before) none earlier))
-    (λ last. ⊎_elim (λ here. here) (λ no. absurd (false≢true no)) (or_cases (test e) false last))
-    (or_cases (list_any test before) (list_any test (e ∷ [])) (sym (list_any-append test before (e ∷ [])) ∙ some))
 
 -- a call that holds its file throughout is ended by one entry
 pub last_is_end : (call : Call) (before : List Entry) (e : Entry) → holds_throughout call ≡ true → is_ended_by call before ≡ false →

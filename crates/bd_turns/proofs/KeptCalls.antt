@@ -17,9 +17,10 @@ use Rattle.bd_entry.specs.Promises.{is_whole_refusal}
 use Rattle.bd_entry.specs.Rules.{NextCall}
 use Rattle.bd_entry.proofs.CallOrder.{is_finished-called, numbered, same_at, stays_finished}
 use Rattle.bd_entry.proofs.HistoryLaws.{is_call}
+use Rattle.bd_entry.proofs.NextReady.{ended_by_end, whole_ends}
 use Rattle.bd_turns.proofs.DoneTurns.{IsDone, RunsAfter, grown, other_entries, other_progress, own_entries, own_progress, runs_after}
 use Rattle.bd_turns.proofs.RunningPlaces.{RunsAt, runs_at}
-use Rattle.bd_turns.proofs.StayingDescriptors.{ended_by_end, none_unended, whole_ends}
+use Rattle.bd_turns.proofs.StayingDescriptors.{none_unended}
 use Rattle.bd_turns.specs.Added.{IsAdded}
 use Rattle.bd_turns.specs.Sound.{AreCallsSound, AreInTurn, AreUnended, AreUnrefused, HasProcesses}
 use Rattle.bd_turns.specs.State.{Progress, State, has_ended, outstanding, progress_of}

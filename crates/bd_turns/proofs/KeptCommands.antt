@@ -27,13 +27,14 @@ use Rattle.bd_entry.proofs.Accesses.{of_call-in_store}
 use Rattle.bd_entry.proofs.CallOrder.{start_of}
 use Rattle.bd_entry.proofs.DescriptorSteps.{is_close}
 use Rattle.bd_entry.proofs.HistoryLaws.{history_leads}
+use Rattle.bd_entry.proofs.NextReady.{closes_end, ended_by_end}
 use Rattle.bd_turns.proofs.Cases.{running_process}
 use Rattle.bd_turns.proofs.ClearingCalls.{clears_key}
 use Rattle.bd_turns.proofs.DoneTurns.{IsDone, NoneRunsAfter, RunsAfter, grown, none_runs_after, own_entries, runs_after}
 use Rattle.bd_turns.proofs.KeptCalls.{ended_parts, unended_by_entries}
 use Rattle.bd_turns.proofs.LegalActs.{none_without_pieces}
 use Rattle.bd_turns.proofs.RunningPlaces.{runs_at}
-use Rattle.bd_turns.proofs.StayingDescriptors.{LeavesOpen, closes_end, ended_by_end, file_stays, for_device-later, for_device-stays}
+use Rattle.bd_turns.proofs.StayingDescriptors.{LeavesOpen, file_stays, for_device-later, for_device-stays}
 use Rattle.bd_turns.specs.Added.{IsAdded}
 use Rattle.bd_turns.specs.Reached.{IsReached}
 use Rattle.bd_turns.specs.Sound.{AreClearsHeld, AreCommands, AreCommandsOfCalls, AreForDevice, is_clear_at, is_told}

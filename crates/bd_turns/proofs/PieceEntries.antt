@@ -24,6 +24,7 @@ use Rattle.bd_entry.specs.Store.{Store, size_in, work_of}
 use Rattle.bd_entry.proofs.Accesses.{of_call-in_store, work-is_of_call}
 use Rattle.bd_entry.proofs.HistoryLaws.{is_call}
 use Rattle.bd_entry.proofs.NextActs.{map_from, then_from}
+use Rattle.bd_entry.proofs.NextReady.{whole_ends}
 use Rattle.bd_entry.proofs.Slots.{some_of}
 use Rattle.bd_turns.specs.declared.turn.Row.{Row}
 use Rattle.bd_turns.specs.declared.turn.Row.TheVariants as rows
@@ -45,7 +46,6 @@ use Rattle.bd_turns.proofs.PieceTurns.{after, kernel_falls, kernel_grows, some_u
 use Rattle.bd_turns.proofs.PiecesThere.{not_all}
 use Rattle.bd_turns.proofs.ProcessorTurns.{none_as_processor_adds}
 use Rattle.bd_turns.proofs.SizesAfter.{extended_size}
-use Rattle.bd_turns.proofs.StayingDescriptors.{whole_ends}
 use Rattle.bd_turns.proofs.RunningPlaces.{runs_at}
 use Rattle.bd_turns.proofs.AddedEntries.{FromAction, adds_from, processors_add}
 

@@ -20,8 +20,8 @@ use Rattle.bd_base.specs.Policy.{open_denial, unlink_denial}
 use Rattle.bd_base.proofs.FileLists.{none-from}
 use Rattle.bd_entry.specs.declared.entry.Entry.{Entry}
 use Rattle.bd_entry.specs.declared.entry.Entry.TheVariants.{Access, Attached, Cleared, Closed, Detached, Opened, Sized}
-use Rattle.bd_entry.specs.Calls.{at_of, fd_of_call, is_ended_by, is_opened}
-use Rattle.bd_entry.specs.Effects.{after_access, after_call, after_change, after_telling, tells_size, with_descriptor_of_call, with_size}
+use Rattle.bd_entry.specs.Calls.{Place, at_of, fd_of_call, is_ended_by, is_opened}
+use Rattle.bd_entry.specs.Effects.{after_access, after_call, after_change, after_telling, effect_of, tells_size, with_descriptor_of_call, with_size}
 use Rattle.bd_entry.specs.Laws.{IsNextOf}
 use Rattle.bd_entry.specs.NextEntries.{goes_by_name}
 use Rattle.bd_entry.specs.Refusals.{denial, descriptor_refusal, file_of_call, first_refusal, is_read_only, reason_if, truncate_refusal, unlink_denial_of}
@@ -62,15 +62,17 @@ change-uids s (Access at piece fd file index block range wrote way bytes) = acce
 change-uids s (Sized at fd size) = sized_uids s size (descriptor_at s at.process fd)
 change-uids s e = refl
 
--- no entry changes the user of a process
-pub user_kept : (s : Store) (call : Call) (e : Entry) (process : ℕ) → user_of (store_after s call e) process ≡ user_of s process
-user_kept s call e process =
-    let p = place_in s call (at_of e) in
+-- no entry changes the users
+pub effect_of-uids : (s : Store) (p : Place) (e : Entry) → (effect_of s p e).uids ≡ s.uids
+effect_of-uids s p e =
     let entries = p.before ++ e ∷ [] in
-    let of = fd_of_call call entries in
+    let of = fd_of_call p.call entries in
     let told = after_telling (tells_size e) (after_change s e) p.at.process of in
-    ap (λ (uids : List ℕ). slice_index_or uids process 0)
-    (call-uids (is_ended_by call entries) told p.at.process of entries ∙ telling-uids (tells_size e) (after_change s e) p.at.process of ∙ change-uids s e)
+    call-uids (is_ended_by p.call entries) told p.at.process of entries
+    ∙ telling-uids (tells_size e) (after_change s e) p.at.process of ∙ change-uids s e
+
+pub user_kept : (s : Store) (call : Call) (e : Entry) (process : ℕ) → user_of (store_after s call e) process ≡ user_of s process
+user_kept s call e process = ap (λ (uids : List ℕ). slice_index_or uids process 0) (effect_of-uids s (place_in s call (at_of e)) e)
 
 -- ---- free descriptors
 

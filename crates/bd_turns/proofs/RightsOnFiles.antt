@@ -1,10 +1,9 @@
 -- The rights on a file and its size after an entry that spares them, and the keys of its rights.
-use Rattle.std.proofs.Common.{◌≡◌, ◌≢◌, ◌⊎◌, inl, inr, ℕ, zero, suc, ◌+◌, ◌≤◌, Bool, true, false, ◌||◌, ◌&&◌, cond, List, [], ◌∷◌, ◌++◌, map, length, Option, None, Some, refl, sym, ap, ◌∙◌, subst, arith, ⊎_elim}
+use Rattle.std.proofs.Common.{◌≡◌, ◌≢◌, ◌⊎◌, inl, inr, ℕ, suc, ◌+◌, ◌≤◌, Bool, true, false, ◌||◌, ◌&&◌, cond, List, [], ◌∷◌, ◌++◌, map, length, Option, None, Some, refl, sym, ap, ◌∙◌, subst, arith, ⊎_elim}
 use Rattle.std.specs.Prelude.{nat_eq, nat_lt, slice_index_or}
 use Rattle.std.specs.Option.{option_map_or}
 use Rattle.std.specs.List.{enumerate_from, find, flat_map, list_any}
 use Rattle.std.proofs.lemmas.Bool.{and_left, and_right, cases_Bool, eq-eqb, eqb-true, ltb-false, false≢true, ne_eqb, or_cases, or_left, or_parts, or_right}
-use Rattle.std.proofs.lemmas.List.Folds.{list_any-append}
 use Rattle.std.proofs.lemmas.Option.{none-some, same_Some}
 use Rattle.bd_base.specs.declared.key.Key.{Key}
 use Rattle.bd_base.specs.declared.script.Call.{Call}
@@ -19,6 +18,7 @@ use Rattle.bd_entry.specs.Rules.{RightFile, place_in}
 use Rattle.bd_entry.specs.RulesOfRights.{HasNoRights}
 use Rattle.bd_entry.specs.Store.{Descriptor, Store, descriptor_at, file_in, has_part, has_rights, is_attached_of, size_at, size_in, slots_of, without_part}
 use Rattle.bd_entry.proofs.EffectsOnFiles.{effect_of-files}
+use Rattle.bd_entry.proofs.NextCloses.{flat-at}
 use Rattle.bd_entry.proofs.SlotTests.{IgnoresSizes, Spares, none-after}
 use Rattle.bd_entry.proofs.SoundVolumes.{KeepsAll}
 use Rattle.bd_turns.proofs.FilesOfCalls.{not_made, store_after}
@@ -214,22 +214,6 @@ find-none check (x ∷ xs) none = by (check x) none (find-none check xs)
     by : (b : Bool) → cond b (Some x) (find check xs) ≡ None → (find check xs ≡ None → list_any check xs ≡ false) → (b || list_any check xs) ≡ false
     by true none later = absurd (none-some x (sym none))
     by false none later = later none
-
--- where nothing that is made of all elements passes a test, nothing that is made of the one at an index does
-flat-at : {X A : Type 0} (f : ℕ × X → List A) (test : A → Bool) (n : ℕ) (xs : List X) (i : ℕ) (none : X) → f (n + i, none) ≡ [] →
-    list_any test (flat_map f (enumerate_from n xs)) ≡ false → list_any test (f (n + i, slice_index_or xs i none)) ≡ false
-flat-at f test n [] i none empty fails = ap (list_any test) empty
-flat-at f test n (x ∷ xs) zero none empty fails =
-    let same : n ≡ n + 0 = omega arith in
-    let parts = or_parts (list_any test (f (n, x))) (list_any test (flat_map f (enumerate_from (n + 1) xs)))
-    (sym (list_any-append test (f (n, x)) (flat_map f (enumerate_from (n + 1) xs))) ∙ fails) in
-    subst (λ (m : ℕ). list_any test (f (m, x)) ≡ false) same parts.0
-flat-at f test n (x ∷ xs) (suc i) none empty fails =
-    let same : n + 1 + i ≡ n + suc i = omega arith in
-    let parts = or_parts (list_any test (f (n, x))) (list_any test (flat_map f (enumerate_from (n + 1) xs)))
-    (sym (list_any-append test (f (n, x)) (flat_map f (enumerate_from (n + 1) xs))) ∙ fails) in
-    subst (λ (m : ℕ). list_any test (f (m, slice_index_or xs i none)) ≡ false) same
-    (flat-at f test (n + 1) xs i none (subst (λ (m : ℕ). f (m, none) ≡ []) (sym same) empty) parts.1)
 
 among_parts : (check : Key → Bool) (key : Key) (parts : List ℕ) →
     list_any check (map (λ part. record { process = key.process; fd = key.fd; part = part }) parts) ≡ false → has_part key.part parts ≡ true → check key ≡ false

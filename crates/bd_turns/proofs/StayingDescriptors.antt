@@ -2,60 +2,35 @@
 use Rattle.std.proofs.Common.{◌≡◌, ◌≢◌, ℕ, ◌+◌, ◌-◌, ◌/◌, ◌<◌, ◌≤◌, true, false, ◌||◌, not, List, [], ◌∷◌, ◌++◌, length, Option, None, Some, refl, sym, ap, ◌∙◌, subst, arith, ⊎_elim}
 use Rattle.std.specs.Prelude.{nat_lt}
 use Rattle.std.specs.Option.{option_map_or}
-use Rattle.std.specs.List.{list_any, range_with_len}
-use Rattle.std.proofs.lemmas.Bool.{cases_Bool, false≢true, or_left, or_right}
+use Rattle.std.specs.List.{range_with_len}
+use Rattle.std.proofs.lemmas.Bool.{cases_Bool, false≢true, or_left}
 use Rattle.std.proofs.lemmas.List.{length-map}
 use Rattle.std.proofs.lemmas.List.FromFn.{length-range_with_len}
-use Rattle.std.proofs.lemmas.List.Folds.{list_any-append}
 use Rattle.std.proofs.lemmas.Option.{none-some, same_Some}
 use Rattle.bd_base.specs.declared.journal.At.{At}
 use Rattle.bd_base.specs.declared.limits.TheConstants.{BLOCK_SIZE}
 use Rattle.bd_base.specs.declared.script.Call.{Call}
-use Rattle.bd_base.specs.declared.script.Call.TheVariants.{Enter, Read, Write, Close, RawRead, RawWrite}
+use Rattle.bd_base.specs.declared.script.Call.TheVariants.{Read, Write, RawRead, RawWrite}
 use Rattle.bd_base.specs.declared.script.How.{How}
-use Rattle.bd_base.specs.declared.script.How.TheVariants as hows
 use Rattle.bd_base.specs.Pieces.{Piece, piece_at, pieces}
 use Rattle.bd_base.specs.Scripts.{IsCall}
 use Rattle.bd_entry.specs.declared.entry.Entry.{Entry}
-use Rattle.bd_entry.specs.declared.entry.Entry.TheVariants.{Closed, Refused}
+use Rattle.bd_entry.specs.declared.entry.Entry.TheVariants.{Closed}
 use Rattle.bd_entry.specs.Actions.{is_for_device}
-use Rattle.bd_entry.specs.Calls.{Place, at_of, fd_of_call, is_end_of, is_ended_by, is_made_by, is_raw, named_fd, piece_end, piece_of_call}
-use Rattle.bd_entry.specs.Effects.{after_change, after_telling, effect_of, tells_size, with_told_size}
-use Rattle.bd_entry.specs.Promises.{is_whole_refusal}
+use Rattle.bd_entry.specs.Calls.{Place, at_of, is_ended_by, is_raw, named_fd, piece_end, piece_of_call}
+use Rattle.bd_entry.specs.Effects.{after_change, effect_of}
 use Rattle.bd_entry.specs.Refusals.{goes_direct}
 use Rattle.bd_entry.specs.Rules.{place_in}
 use Rattle.bd_entry.specs.RulesOfRights.{HasRightDescriptor, TheDescriptor}
 use Rattle.bd_entry.specs.Store.{Descriptor, Store, descriptor_at, is_plain, work_of}
-use Rattle.bd_entry.proofs.DescriptorSteps.{Becomes, after_call-cases, after_change-becomes, is_close, slot-set_cases}
+use Rattle.bd_entry.proofs.DescriptorSteps.{Becomes, after_change-becomes, is_close, slot-set_cases}
+use Rattle.bd_entry.proofs.NextReady.{descriptor_stays}
 use Rattle.bd_entry.proofs.WriteModes.{TheDescriptor-map, TheDescriptor-same}
 use Rattle.bd_turns.proofs.CommandsInHand.{GoesDirectBy, goes_there}
 use Rattle.bd_turns.proofs.UnfinishedCalls.{untold_unfinished}
-use Rattle.bd_turns.proofs.FilesOfCalls.{change_kept, changed_kept, told_kept}
+use Rattle.bd_turns.proofs.FilesOfCalls.{changed_kept}
 
 -- ---- entries that end their calls
-
--- an entry that ends the call alone ends it after any others
-pub ended_by_end : (call : Call) (before : List Entry) (e : Entry) → is_end_of call e ≡ true → is_ended_by call (before ++ e ∷ []) ≡ true
-ended_by_end call before e ends =
-    by call
-    (list_any-append (is_end_of call) before (e ∷ [])
-    ∙ or_right (list_any (is_end_of call) before) (list_any (is_end_of call) (e ∷ [])) (or_left (is_end_of call e) false ends))
-  where
-    by : (c : Call) → list_any (is_end_of c) (before ++ e ∷ []) ≡ true → is_ended_by c (before ++ e ∷ []) ≡ true
-    by (Read fd off len) any = or_left _ _ any
-    by (Write fd off bytes) any = or_left _ _ any
-    by c any = any
-
-pub closes_end : (call : Call) (e : Entry) → is_made_by call e ≡ true → is_close e ≡ true → is_end_of call e ≡ true
-closes_end (Close fd) (Closed at by) made closes = refl
-closes_end (Enter name mode hows.Plain) (Closed at by) made closes = absurd (false≢true made)
-closes_end (Enter name mode hows.Direct) (Closed at by) made closes = absurd (false≢true made)
-closes_end call (Closed at by) made closes = absurd (false≢true made)
-closes_end call e made closes = absurd (false≢true closes)
-
-pub whole_ends : (call : Call) (e : Entry) → is_whole_refusal e ≡ true → is_end_of call e ≡ true
-whole_ends call (Refused at None reason) whole = refl
-whole_ends call e whole = absurd (false≢true whole)
 
 -- a byte range has a piece
 range_has_piece : (off len : ℕ) → 1 ≤ len → 0 < length (pieces off len)
@@ -88,20 +63,7 @@ use_stays : (P : Descriptor → Type 0) → RestsOnUse P → (s : Store) (call :
     (process fd : ℕ) → (is_close e ≡ true → process ≢ (at_of e).process) →
     (is_ended_by call (work_of s (at_of e).process ++ e ∷ []) ≡ true → process ≢ (at_of e).process) →
     TheDescriptor (descriptor_at s process fd) P → TheDescriptor (descriptor_at (effect_of s (place_in s call (at_of e)) e) process fd) P
-use_stays P rests s call e fits process fd stays_open goes_on has =
-    let entries = work_of s (at_of e).process ++ e ∷ [] in
-    let of = fd_of_call call entries in
-    let changed = after_change s e in
-    let told = after_telling (tells_size e) changed (at_of e).process of in
-    let after = effect_of s (place_in s call (at_of e)) e in
-    let first : TheDescriptor (descriptor_at changed process fd) P =
-    change_kept P (λ d new keeps is. rests d new keeps.how keeps.known is) s call e fits process fd stays_open has in
-    let second : TheDescriptor (descriptor_at told process fd) P =
-    told_kept P changed (λ d is. rests d (with_told_size changed d) refl refl is) (tells_size e) (at_of e).process of process fd first in
-    ⊎_elim
-    (λ same. TheDescriptor-same P (descriptor_at told process fd) (descriptor_at after process fd) same second)
-    (λ ended. absurd (goes_on ended.2 ended.0))
-    (after_call-cases (is_ended_by call entries) told (at_of e).process of entries process fd)
+use_stays P rests = descriptor_stays P (λ d new mode how known is. rests d new how known is)
 
 -- the descriptor is of this file
 abbrev IsOf : ℕ → Descriptor → Type 0

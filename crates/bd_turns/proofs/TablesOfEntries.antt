@@ -112,7 +112,7 @@ few_processes m p limits some =
     omega (arith, there, limits.process_count)
 
 -- a key whose right is not attached in the store has none in the tables
-unattached : (rights : Rights) (s : Store) (process fd part : ℕ) (d : Descriptor) → AllFit rights s → descriptor_at s process fd ≡ Some d →
+pub unattached : (rights : Rights) (s : Store) (process fd part : ℕ) (d : Descriptor) → AllFit rights s → descriptor_at s process fd ≡ Some d →
     has_part part d.attached ≡ false → fin.get rights (key_at process fd part) ≡ None
 unattached rights s process fd part d all there free =
     by (fin.get rights (key_at process fd part))

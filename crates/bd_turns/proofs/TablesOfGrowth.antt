@@ -36,7 +36,7 @@ use Rattle.bd_turns.proofs.RightsFit.{AllFit}
 -- ---- the cell of the block
 
 -- the file of an entry that grows it
-grown_slot : (s : Store) (q : Place) (at : At) (file to : ℕ) (block : Option ℕ) (f : Inode) → file_in s file ≡ Some f →
+pub grown_slot : (s : Store) (q : Place) (at : At) (file to : ℕ) (block : Option ℕ) (f : Inode) → file_in s file ≡ Some f →
     file_in (effect_of s q (Extended at file to block)) file ≡ Some (grown_file f block to)
 grown_slot s q at file to block f there =
     let e = Extended at file to block in
@@ -48,7 +48,7 @@ grown_slot s q at file to block f there =
 blocks_by : (s : Store) (file : ℕ) (f : Inode) → file_in s file ≡ Some f → blocks_in s file ≡ f.blocks
 blocks_by s file f there = ap blocks_of_slot there
 
-limit_by : (s : Store) (file index : ℕ) (f : Inode) → file_in s file ≡ Some f → limit_in s file index ≡ limit_of f.size f.blocks index
+pub limit_by : (s : Store) (file index : ℕ) (f : Inode) → file_in s file ≡ Some f → limit_in s file index ≡ limit_of f.size f.blocks index
 limit_by s file index f there =
     ap (λ (slot : Option Inode). limit_of (option_map_or (λ (f : Inode). f.size) slot 0) (blocks_of_slot slot) index) there
 
